@@ -1,0 +1,98 @@
+// The four counts of FRF.11 (document 01, "The digit count, the signalling count, the voice count and the data count"): a
+// type each, so that one never stands in for another. Each goes on by one and tells the step to another, round its width,
+// for every value that its type can hold.
+ghost use mathlib.Core.Path.{_≡_};
+ghost use Prim.Native.Nat.{_%_, _^_};
+ghost use Rattle.counts.specs.Round.{bitsOf, onward, step};
+
+// The widths of the masked counts, in bits.
+enum Width {
+    Four,
+    Seven,
+    Thirteen,
+}
+
+// n round a width: the bits under its mask.
+fn round(n: u16, width: Width) -> u16
+    ensures { λ r. ⌜ r ≡ n % 2 ^ bitsOf width ⌝ }
+{
+    match width {
+        Width::Four => n & 15,
+        Width::Seven => n & 127,
+        Width::Thirteen => n & 8191,
+    }
+}
+
+// The sequence of digit payloads (Annex A), of 8 bits.
+pub struct DigitCount(pub u8);
+
+// The sequence of signalling payloads (Annex B), of 7 bits.
+pub struct SignallingCount(pub u8);
+
+// The sequence of voice and SID payloads (Annexes E to I), of 4 bits.
+pub struct VoiceCount(pub u8);
+
+// The sequence of data payloads (Annex C), of 13 bits.
+pub struct DataCount(pub u16);
+
+impl DigitCount {
+    pub fn next(self) -> Self
+        ensures { λ r. ⌜ r .0 ≡ onward 8 (self .0) 1 ⌝ }
+    {
+        DigitCount(std::num::wrapping_add_u8(self.0, 1))
+    }
+
+    pub fn step_to(self, new: DigitCount) -> u8
+        ensures { λ r. ⌜ r ≡ step 8 (self .0) (new .0) ⌝ }
+    {
+        std::num::wrapping_sub_u8(new.0, self.0)
+    }
+}
+
+impl SignallingCount {
+    pub fn next(self) -> Self
+        ensures { λ r. ⌜ r .0 ≡ onward 7 (self .0) 1 ⌝ }
+    {
+        SignallingCount(round(std::num::wrapping_add_u16(self.0 as u16, 1), Width::Seven) as u8)
+    }
+
+    pub fn step_to(self, new: SignallingCount) -> u8
+        ensures { λ r. ⌜ r ≡ step 7 (self .0) (new .0) ⌝ }
+    {
+        round(
+            std::num::wrapping_sub_u16(new.0 as u16, self.0 as u16),
+            Width::Seven,
+        ) as u8
+    }
+}
+
+impl VoiceCount {
+    pub fn next(self) -> Self
+        ensures { λ r. ⌜ r .0 ≡ onward 4 (self .0) 1 ⌝ }
+    {
+        VoiceCount(round(std::num::wrapping_add_u16(self.0 as u16, 1), Width::Four) as u8)
+    }
+
+    pub fn step_to(self, new: VoiceCount) -> u8
+        ensures { λ r. ⌜ r ≡ step 4 (self .0) (new .0) ⌝ }
+    {
+        round(
+            std::num::wrapping_sub_u16(new.0 as u16, self.0 as u16),
+            Width::Four,
+        ) as u8
+    }
+}
+
+impl DataCount {
+    pub fn next(self) -> Self
+        ensures { λ r. ⌜ r .0 ≡ onward 13 (self .0) 1 ⌝ }
+    {
+        DataCount(round(std::num::wrapping_add_u16(self.0, 1), Width::Thirteen))
+    }
+
+    pub fn step_to(self, new: DataCount) -> u16
+        ensures { λ r. ⌜ r ≡ step 13 (self .0) (new .0) ⌝ }
+    {
+        round(std::num::wrapping_sub_u16(new.0, self.0), Width::Thirteen)
+    }
+}

@@ -1,0 +1,3 @@
+pub mod HeaderCases
+pub mod HeaderInverse
+pub mod OpeningTurns

@@ -1,0 +1,73 @@
+-- Opening a frame (document 01, "Frame and sub-frame" and refusals 1 to 8): one information field of 1 to 1,600 octets,
+-- holding 1 to 64 sub-frames. "Order: 1, 2, then per sub-frame 8, 3, 4, 5, 6, 7."
+use Prim.Native.Nat.{ℕ, zero, suc, _+_, _-_}
+use mathlib.Core.List.{List, [], _∷_, _++_}
+use mathlib.Core.Bool.{Bool, true, false, cond}
+use lib.Dec.{ltb, eqb}
+use lib.ListN.{length, replicate}
+use Rattle.refusal.specs.Numbers.{sound, fieldEmpty, fieldTooLong, tooManySubFrames}
+use Rattle.frame.specs.declared.SubFrame.{SubFrame}
+use Rattle.frame.specs.declared.Header.{Header}
+use Rattle.frame.specs.declared.Header.the-variants.{Sub, Bad, Past}
+use Rattle.frame.specs.declared.Opened.{Opened}
+use Rattle.frame.specs.Header.{headerAt}
+
+abbrev pub mostOctets : ℕ
+mostOctets = 1600
+
+abbrev pub mostSubFrames : ℕ
+mostSubFrames = 64
+
+-- What opening tells: the refusal number and the place of the offending sub-frame's first octet, or 0 and the end of the
+-- field; and the sub-frames before that place, in order: all of them where the frame is sound.
+pub record Opening : Type 0 where
+  pub number : ℕ
+  pub at : ℕ
+  pub subs : List SubFrame
+
+abbrev pub stopped : ℕ → ℕ → Opening
+stopped number at = record { number = number; at = at; subs = [] }
+
+-- a sub-frame, before what follows it
+abbrev pub before : SubFrame → Opening → Opening
+before sub rest = record { number = rest .number; at = rest .at; subs = sub ∷ rest .subs }
+
+-- where a sub-frame ends
+abbrev pub endOf : SubFrame → ℕ
+endOf sub = sub .start + sub .len
+
+abbrev pub endOfHeader : Header → ℕ
+endOfHeader (Sub sub) = endOf sub
+endOfHeader (Bad number) = 0
+endOfHeader Past = 0
+
+-- a header at a place, and what follows it
+abbrev pub onwards : Header → ℕ → Opening → Opening
+onwards (Sub sub) at rest = before sub (cond (sub .last) (stopped sound (endOf sub)) rest)
+onwards (Bad number) at rest = stopped number at
+onwards Past at rest = stopped sound at
+
+-- the sub-frames of s from a place on, of which `room` may begin
+unfoldable pub scan : ℕ → List ℕ → ℕ → Opening
+scan zero s at = stopped tooManySubFrames at
+scan (suc room) s at = onwards (headerAt s at) at (scan room s (endOfHeader (headerAt s at)))
+
+unfoldable pub opening : List ℕ → Opening
+opening s =
+    cond (eqb (length s) 0) (stopped fieldEmpty 0)
+    (cond (ltb mostOctets (length s)) (stopped fieldTooLong 0)
+    (scan mostSubFrames s 0))
+
+-- an unused place of the answer
+abbrev pub unused : SubFrame
+unused = record { cid = 0; ptype = 0; start = 0; len = 0; last = false }
+
+-- the answer of the code: the sub-frames stand in 64 places
+abbrev pub answer : Opening → Opened
+answer o =
+    record {
+      number = o .number;
+      at = o .at;
+      count = length (o .subs);
+      subs = o .subs ++ replicate (mostSubFrames - length (o .subs)) unused;
+    }
