@@ -1,3 +1,4 @@
 pub mod HeaderCases
 pub mod HeaderInverse
 pub mod OpeningTurns
+pub mod HeaderWritten
