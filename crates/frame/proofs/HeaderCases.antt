@@ -24,56 +24,39 @@ module _ (at o a b n : ℕ) where
     unfolding told
     reserved h = simp (le-ltb n (size o) whole, lt-ltb (cidOf o a) 4 h)
 
-    module _ (cid : 4 ≤ cidOf o a) where
+    module _ (free : 4 ≤ cidOf o a) where
       pub spare-set : (spare a ≡ 0 → ⊥) → told at o a b n ≡ Bad spareBitSet
       unfolding told
-      spare-set h = simp (le-ltb n (size o) whole, le-ltb (cidOf o a) 4 cid, ne-eqb (spare a) 0 h)
+      spare-set h = simp (le-ltb n (size o) whole, le-ltb (cidOf o a) 4 free, ne-eqb (spare a) 0 h)
 
       module _ (clear : spare a ≡ 0) where
         pub last-one :
             li o ≡ 0
             → told at o a b n ≡ Sub (record { cid = cidOf o a; ptype = payloadType a; start = at + size o; len = n - size o; last = true })
         unfolding told
-        last-one h = simp (le-ltb n (size o) whole, le-ltb (cidOf o a) 4 cid, eq-eqb (spare a) 0 clear, eq-eqb (li o) 0 h)
+        last-one h = simp (le-ltb n (size o) whole, le-ltb (cidOf o a) 4 free, eq-eqb (spare a) 0 clear, eq-eqb (li o) 0 h)
 
         module _ (more : li o ≡ 0 → ⊥) where
-          pub past : n - size o < b → told at o a b n ≡ Bad lengthPastField
+          -- past the tests for 3, 4 and 5, where LI is 1
+          on :
+              told at o a b n
+              ≡ cond (ltb (n - size o) b) (Bad lengthPastField)
+              (cond (eqb (n - size o) b) (Bad lastWithLength)
+              (Sub (record { cid = cidOf o a; ptype = payloadType a; start = at + size o; len = b; last = false })))
           unfolding told
-          past h =
-              simp (
-                le-ltb n (size o) whole,
-                le-ltb (cidOf o a) 4 cid,
-                eq-eqb (spare a) 0 clear,
-                ne-eqb (li o) 0 more,
-                lt-ltb (n - size o) b h,
-              )
+          on = simp (le-ltb n (size o) whole, le-ltb (cidOf o a) 4 free, eq-eqb (spare a) 0 clear, ne-eqb (li o) 0 more)
+
+          pub past : n - size o < b → told at o a b n ≡ Bad lengthPastField
+          past h = on ∙ simp (lt-ltb (n - size o) b h)
 
           module _ (within : b ≤ n - size o) where
             pub ends : n - size o ≡ b → told at o a b n ≡ Bad lastWithLength
-            unfolding told
-            ends h =
-                simp (
-                  le-ltb n (size o) whole,
-                  le-ltb (cidOf o a) 4 cid,
-                  eq-eqb (spare a) 0 clear,
-                  ne-eqb (li o) 0 more,
-                  le-ltb (n - size o) b within,
-                  eq-eqb (n - size o) b h,
-                )
+            ends h = on ∙ simp (le-ltb (n - size o) b within, eq-eqb (n - size o) b h)
 
             pub another :
                 (n - size o ≡ b → ⊥)
                 → told at o a b n ≡ Sub (record { cid = cidOf o a; ptype = payloadType a; start = at + size o; len = b; last = false })
-            unfolding told
-            another h =
-                simp (
-                  le-ltb n (size o) whole,
-                  le-ltb (cidOf o a) 4 cid,
-                  eq-eqb (spare a) 0 clear,
-                  ne-eqb (li o) 0 more,
-                  le-ltb (n - size o) b within,
-                  ne-eqb (n - size o) b h,
-                )
+            another h = on ∙ simp (le-ltb (n - size o) b within, ne-eqb (n - size o) b h)
 
 module _ (s : List ℕ) (at : ℕ) where
   pub nothing : length s ≤ at → headerAt s at ≡ Past

@@ -1,6 +1,6 @@
 -- What holds of a header that was read, from the sub-frame that it told.
 use Prim.Native.Nat.{ℕ, _+_, _-_, _<_, _≤_}
-use mathlib.Core.Path.{_≡_, refl, sym, ap, _∙_}
+use mathlib.Core.Path.{_≡_, refl, sym, ap, subst, _∙_}
 use mathlib.Core.List.{List}
 use mathlib.Core.Bool.{true, false}
 use mathlib.Core.Logic.{_⊎_, inl, inr, ⊎-elim}
@@ -36,39 +36,50 @@ pub record Told (at o a b n : ℕ) (sub : SubFrame) : Type 0 where
       × (b < n - size o)
       × (record { cid = cidOf o a; ptype = payloadType a; start = at + size o; len = b; last = false } ≡ sub))
 
-module _ (at o a b n : ℕ) (sub : SubFrame) (e : told at o a b n ≡ Sub sub) where
-  pub told-inverse : Told at o a b n sub
-  told-inverse =
-      ⊎-elim
-      (λ short. never-bad _ _ _ (cases.cut at o a b n short) e)
-      (λ whole.
-      ⊎-elim
-      (λ small. never-bad _ _ _ (cases.reserved at o a b n whole small) e)
-      (λ free.
-      ⊎-elim
-      (λ clear.
-      record {
-        whole = whole;
-        free = free;
-        clear = clear;
-        is =
-            ⊎-elim
-            (λ final. inl (final, same-sub _ _ _ (cases.last-one at o a b n whole free clear final) e))
-            (λ more.
-            ⊎-elim
-            (λ past. never-bad _ _ _ (cases.past at o a b n whole free clear more past) e)
-            (λ within.
-            ⊎-elim
-            (λ ends. never-bad _ _ _ (cases.ends at o a b n whole free clear more within ends) e)
-            (λ goes. inr (more, omega arith, same-sub _ _ _ (cases.another at o a b n whole free clear more within goes) e))
-            (eq-or-ne (n - size o) b))
-            (lt-or-le (n - size o) b))
-            (eq-or-ne (li o) 0);
-      })
-      (λ set. never-bad _ _ _ (cases.spare-set at o a b n whole free set) e)
-      (eq-or-ne (spare a) 0))
-      (lt-or-le (cidOf o a) 4))
-      (lt-or-le n (size o))
+-- a refusal has a number
+pub record Refused (h : Header) : Type 0 where
+  pub number : ℕ
+  pub is : h ≡ Bad number
+  pub some : 0 < number
+
+refused : (h : Header) (number : ℕ) → h ≡ Bad number → 0 < number → Refused h
+refused h number is some = record { number = number; is = is; some = some }
+
+-- a header is refused, or tells a sub-frame
+pub decided : (at o a b n : ℕ) → Refused (told at o a b n) ⊎ ((sub : SubFrame) × (told at o a b n ≡ Sub sub) × Told at o a b n sub)
+decided at o a b n =
+    ⊎-elim
+    (λ short. inl (refused _ _ (cases.cut at o a b n short) (omega arith)))
+    (λ whole.
+    ⊎-elim
+    (λ small. inl (refused _ _ (cases.reserved at o a b n whole small) (omega arith)))
+    (λ free.
+    ⊎-elim
+    (λ clear.
+    ⊎-elim
+    (λ final.
+    let e = cases.last-one at o a b n whole free clear final in
+    inr (_, e, record { whole = whole; free = free; clear = clear; is = inl (final, refl) }))
+    (λ more.
+    ⊎-elim
+    (λ past. inl (refused _ _ (cases.past at o a b n whole free clear more past) (omega arith)))
+    (λ within.
+    ⊎-elim
+    (λ ends. inl (refused _ _ (cases.ends at o a b n whole free clear more within ends) (omega arith)))
+    (λ goes.
+    let e = cases.another at o a b n whole free clear more within goes in
+    inr (_, e, record { whole = whole; free = free; clear = clear; is = inr (more, omega arith, refl) }))
+    (eq-or-ne (n - size o) b))
+    (lt-or-le (n - size o) b))
+    (eq-or-ne (li o) 0))
+    (λ set. inl (refused _ _ (cases.spare-set at o a b n whole free set) (omega arith)))
+    (eq-or-ne (spare a) 0))
+    (lt-or-le (cidOf o a) 4))
+    (lt-or-le n (size o))
+
+told-inverse : (at o a b n : ℕ) (sub : SubFrame) → told at o a b n ≡ Sub sub → Told at o a b n sub
+told-inverse at o a b n sub e =
+    ⊎-elim (λ r. never-bad _ _ _ (r .is) e) (λ w. subst (Told at o a b n) (same-sub _ _ _ (w .1) e) (w .2)) (decided at o a b n)
 
 module _ (s : List ℕ) (at : ℕ) (sub : SubFrame) (e : headerAt s at ≡ Sub sub) where
   pub here : at < length s

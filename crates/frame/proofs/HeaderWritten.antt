@@ -55,7 +55,7 @@ module _ (cid ptype : ℕ) (last : Bool) (len : ℕ) where
   unfolding shortestHeader
   with-both ne l = simp (ei-set cid ptype ne, l)
 
-with-size : (ei cid ptype : ℕ) (last : Bool) (len : ℕ) → (ei ≡ 0) ⊎ (ei ≡ 1) → length (headerWith ei cid ptype last len) ≡ 1 + ei + liFor last
+pub with-size : (ei cid ptype : ℕ) (last : Bool) (len : ℕ) → (ei ≡ 0) ⊎ (ei ≡ 1) → length (headerWith ei cid ptype last len) ≡ 1 + ei + liFor last
 with-size ei cid ptype true len w = ⊎-elim (λ e. rw e) (λ e. rw e) w
 with-size ei cid ptype false len w = ⊎-elim (λ e. rw e) (λ e. rw e) w
 

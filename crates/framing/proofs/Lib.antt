@@ -1,0 +1,5 @@
+pub mod ReadBack
+pub mod Same
+pub mod Recompose
+pub mod Shortest
+pub mod Octets
