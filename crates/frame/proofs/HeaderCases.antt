@@ -10,8 +10,8 @@ use lib.Dec.{ltb, eqb}
 use lib.ListN.{length, getD, drop, length-drop}
 use lib.Seq.{getD-drop}
 use Rattle.refusal.specs.Numbers.{headerCut, cidReserved, spareBitSet, lengthPastField, lastWithLength}
-use Rattle.frame.specs.declared.Header.{Header}
-use Rattle.frame.specs.declared.Header.the-variants.{Sub, Bad, Past}
+use Rattle.frame.specs.declared.header.Header.{Header}
+use Rattle.frame.specs.declared.header.Header.the-variants.{Sub, Bad, Past}
 use Rattle.frame.specs.Header.{ei, li, lowBits, highBits, spare, payloadType, size, octet1, octet1a, octet1b, cidOf, told, headerAt}
 
 module _ (at o a b n : ℕ) where

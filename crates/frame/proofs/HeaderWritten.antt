@@ -12,8 +12,8 @@ use lib.ListN.{length, take, drop}
 use lib.Seq.{sets, sets-eq}
 use Rattle.octets.proofs.Order.{lt-or-le, eq-or-ne}
 use Rattle.refusal.specs.Numbers.{cidReserved, valueOutOfRange, roomTooSmall}
-use Rattle.frame.specs.declared.Put.{Put}
-use Rattle.frame.specs.declared.Put.the-variants.{Written, NotWritten}
+use Rattle.frame.specs.declared.joining.Put.{Put}
+use Rattle.frame.specs.declared.joining.Put.the-variants.{Written, NotWritten}
 use Rattle.frame.specs.Joining.{eiFor, liFor, headerWith, shortestHeader, headerSize, headerPut, written, leftBy}
 
 module _ (cid ptype : ℕ) where

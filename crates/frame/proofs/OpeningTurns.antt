@@ -9,10 +9,10 @@ use borrow.Author.Tests.{lt-ltb, le-ltb, eq-eqb, ne-eqb}
 use lib.ListN.{length, replicate, set, length-append}
 use lib.Seq.{set-at, append-snoc}
 use Rattle.refusal.specs.Numbers.{sound, fieldEmpty, fieldTooLong, tooManySubFrames}
-use Rattle.frame.specs.declared.SubFrame.{SubFrame}
-use Rattle.frame.specs.declared.Header.{Header}
-use Rattle.frame.specs.declared.Header.the-variants.{Sub, Bad, Past}
-use Rattle.frame.specs.declared.Opened.{Opened}
+use Rattle.frame.specs.declared.header.SubFrame.{SubFrame}
+use Rattle.frame.specs.declared.header.Header.{Header}
+use Rattle.frame.specs.declared.header.Header.the-variants.{Sub, Bad, Past}
+use Rattle.frame.specs.declared.opening.Opened.{Opened}
 use Rattle.frame.specs.Header.{headerAt}
 use Rattle.frame.specs.Opening.{Opening, stopped, before, endOf, endOfHeader, onwards, scan, opening, unused, answer}
 

@@ -11,9 +11,9 @@ use mathlib.Core.Bool.{Bool, true, false, cond}
 use lib.Dec.{ltb, leb, eqb}
 use lib.ListN.{length, getD, drop}
 use Rattle.refusal.specs.Numbers.{headerCut, cidReserved, spareBitSet, lengthPastField, lastWithLength}
-use Rattle.frame.specs.declared.SubFrame.{SubFrame}
-use Rattle.frame.specs.declared.Header.{Header}
-use Rattle.frame.specs.declared.Header.the-variants.{Sub, Bad, Past}
+use Rattle.frame.specs.declared.header.SubFrame.{SubFrame}
+use Rattle.frame.specs.declared.header.Header.{Header}
+use Rattle.frame.specs.declared.header.Header.the-variants.{Sub, Bad, Past}
 
 -- Octet 1: bit 8 EI, bit 7 LI, bits 6 to 1 the low six bits of the CID.
 abbrev pub ei : ℕ → ℕ

@@ -6,8 +6,8 @@ use mathlib.Core.Bool.{Bool, true, false, cond}
 use lib.Dec.{ltb, eqb}
 use lib.ListN.{length, take, drop}
 use Rattle.refusal.specs.Numbers.{cidReserved, valueOutOfRange, roomTooSmall}
-use Rattle.frame.specs.declared.Put.{Put}
-use Rattle.frame.specs.declared.Put.the-variants.{Written, NotWritten}
+use Rattle.frame.specs.declared.joining.Put.{Put}
+use Rattle.frame.specs.declared.joining.Put.the-variants.{Written, NotWritten}
 
 -- "Writing sets EI only when CID exceeds 63 or the type is not 0."
 abbrev pub eiFor : ℕ → ℕ → ℕ

@@ -6,10 +6,10 @@ use mathlib.Core.Bool.{Bool, true, false, cond}
 use lib.Dec.{ltb, eqb}
 use lib.ListN.{length, replicate}
 use Rattle.refusal.specs.Numbers.{sound, fieldEmpty, fieldTooLong, tooManySubFrames}
-use Rattle.frame.specs.declared.SubFrame.{SubFrame}
-use Rattle.frame.specs.declared.Header.{Header}
-use Rattle.frame.specs.declared.Header.the-variants.{Sub, Bad, Past}
-use Rattle.frame.specs.declared.Opened.{Opened}
+use Rattle.frame.specs.declared.header.SubFrame.{SubFrame}
+use Rattle.frame.specs.declared.header.Header.{Header}
+use Rattle.frame.specs.declared.header.Header.the-variants.{Sub, Bad, Past}
+use Rattle.frame.specs.declared.opening.Opened.{Opened}
 use Rattle.frame.specs.Header.{headerAt}
 
 abbrev pub mostOctets : ℕ

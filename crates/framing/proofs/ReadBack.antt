@@ -7,9 +7,9 @@ use mathlib.Core.Logic.{_⊎_, inl, inr, ⊎-elim}
 use native.Mathlib.Omega.{arith}
 use lib.Dec.{eqb}
 use lib.ListN.{length, getD, drop, length-drop}
-use Rattle.frame.specs.declared.SubFrame.{SubFrame}
-use Rattle.frame.specs.declared.Header.{Header}
-use Rattle.frame.specs.declared.Header.the-variants.{Sub}
+use Rattle.frame.specs.declared.header.SubFrame.{SubFrame}
+use Rattle.frame.specs.declared.header.Header.{Header}
+use Rattle.frame.specs.declared.header.Header.the-variants.{Sub}
 use Rattle.frame.specs.Header.{ei, li, lowBits, highBits, spare, payloadType, size, octet1, octet1a, octet1b, cidOf, told, headerAt}
 use Rattle.frame.specs.Joining.{liFor, headerWith}
 use Rattle.frame.proofs.HeaderCases as cases

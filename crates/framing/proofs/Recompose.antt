@@ -12,8 +12,8 @@ use lib.Dec.{T, eqb}
 use lib.ListN.{length, getD, take, drop, length-drop, take-append-drop}
 use lib.Seq.{drop-drop, getD-drop}
 use Rattle.octets.proofs.Order.{lt-or-le, eq-or-ne}
-use Rattle.frame.specs.declared.SubFrame.{SubFrame}
-use Rattle.frame.specs.declared.Header.the-variants.{Sub}
+use Rattle.frame.specs.declared.header.SubFrame.{SubFrame}
+use Rattle.frame.specs.declared.header.Header.the-variants.{Sub}
 use Rattle.frame.specs.Header.{ei, li, lowBits, highBits, spare, payloadType, size, octet1, octet1a, octet1b, cidOf, headerAt}
 use Rattle.frame.specs.Opening.{endOf}
 use Rattle.frame.specs.Joining.{eiFor, liFor, headerWith}

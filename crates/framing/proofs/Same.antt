@@ -11,8 +11,8 @@ use lib.ListN.{length, getD, take, drop, length-append, length-drop}
 use lib.Seq.{drop-drop, drop-at, take-at, take-length}
 use Rattle.octets.proofs.Order.{eq-or-ne}
 use Rattle.refusal.specs.Numbers.{sound}
-use Rattle.frame.specs.declared.SubFrame.{SubFrame}
-use Rattle.frame.specs.declared.Header.the-variants.{Sub}
+use Rattle.frame.specs.declared.header.SubFrame.{SubFrame}
+use Rattle.frame.specs.declared.header.Header.the-variants.{Sub}
 use Rattle.frame.specs.Header.{headerAt}
 use Rattle.frame.specs.Opening.{Opening, scan, opening, before, stopped, endOf}
 use Rattle.frame.specs.Joining.{Content, isNone, joined, eiFor, liFor, headerWith, shortestHeader, headerSize}

@@ -13,9 +13,9 @@ use lib.ListN.{length, getD, take, drop, length-append, length-drop, length-map,
 use lib.Seq.{drop-drop, drop-length, length-take-le}
 use Rattle.octets.proofs.Order.{lt-or-le, eq-or-ne}
 use Rattle.refusal.specs.Numbers.{sound}
-use Rattle.frame.specs.declared.SubFrame.{SubFrame}
-use Rattle.frame.specs.declared.Header.{Header}
-use Rattle.frame.specs.declared.Header.the-variants.{Sub, Bad}
+use Rattle.frame.specs.declared.header.SubFrame.{SubFrame}
+use Rattle.frame.specs.declared.header.Header.{Header}
+use Rattle.frame.specs.declared.header.Header.the-variants.{Sub, Bad}
 use Rattle.frame.specs.Header.{ei, octet1, headerAt}
 use Rattle.frame.specs.Opening.{Opening, scan, opening, onwards, endOfHeader, before, stopped, endOf}
 use Rattle.frame.specs.Joining.{Content, isNone, joined, eiFor, liFor, headerWith, shortestHeader, headerSize}

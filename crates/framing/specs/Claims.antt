@@ -8,7 +8,7 @@ use mathlib.Core.Bool.{Bool, false, cond}
 use lib.Dec.{eqb}
 use lib.ListN.{length, getD, take, drop, replicate}
 use Rattle.refusal.specs.Numbers.{sound}
-use Rattle.frame.specs.declared.SubFrame.{SubFrame}
+use Rattle.frame.specs.declared.header.SubFrame.{SubFrame}
 use Rattle.frame.specs.Header.{ei}
 use Rattle.frame.specs.Opening.{opening, endOf}
 use Rattle.frame.specs.Joining.{Content, isNone, joined, eiFor}

@@ -1,7 +1,7 @@
 -- `cabinet::cendraviu_frame_check` meets its contract: it hands on the number of what `open` answers.
 use mathlib.Core.Path.{ap}
 use borrow.Author.Needs.{needs}
-use Rattle.frame.specs.declared.Opened.{Opened}
+use Rattle.frame.specs.declared.opening.Opened.{Opened}
 use Rattle.cabinet.proofs.cendraviu_frame_check.Statement.{statement}
 use Rattle.cabinet.proofs.cendraviu_frame_check.Tie as tie
 

@@ -1,3 +1,4 @@
+-- `frame::opening::open` meets its contract: each turn finds one sub-frame more, and what stops the loop stops the scan.
 use Prim.Native.Nat.{_-_}
 use borrow.Author.Needs.{needs}
 use native.Mathlib.Omega.{arith}
@@ -5,11 +6,8 @@ use mathlib.Core.Path.{_≡_, refl, sym, ap, _∙_}
 use Rattle.frame.specs.Opening.{opening, scan, answer}
 use Rattle.frame.proofs.OpeningTurns as turns
 use Rattle.frame.proofs.HeaderInverse as inverse
-use Rattle.frame.proofs.open.Statement.{statement}
-use Rattle.frame.proofs.open.Tie as tie
-use Rattle.frame.proofs.open.Reads as reads
-use Rattle.frame.proofs.open.Lts as lts
-use Rattle.frame.proofs.header_at.Reads as header-at-reads
+use Rattle.frame.proofs.opening.open.Statement.{statement}
+use Rattle.frame.proofs.opening.open.Tie as tie
 
 abbrev Inv-loop : tie.InvT-loop
 Inv-loop frame subs₀ at₀ count₀ subs at count = turns.Going frame (scan 64 frame 0) subs at count

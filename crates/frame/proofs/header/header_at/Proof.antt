@@ -1,4 +1,4 @@
--- `frame::header_at` meets its contract: at each return the tests that led there say which case of `told` holds.
+-- `frame::header::header_at` meets its contract: at each return the tests that led there say which case of `told` holds.
 use mathlib.Core.Path.{_≡_, refl, sym, _∙_}
 use Prim.Native.Nat.{_+_, _-_}
 use borrow.Author.Needs.{needs}
@@ -6,8 +6,8 @@ use native.Mathlib.Omega.{arith}
 use lib.ListN.{length, getD}
 use Rattle.frame.specs.Header.{ei, li, told, headerAt}
 use Rattle.frame.proofs.HeaderCases as cases
-use Rattle.frame.proofs.header_at.Statement.{statement}
-use Rattle.frame.proofs.header_at.Tie as tie
+use Rattle.frame.proofs.header.header_at.Statement.{statement}
+use Rattle.frame.proofs.header.header_at.Tie as tie
 
 -- what is told, once the octets are read
 read :

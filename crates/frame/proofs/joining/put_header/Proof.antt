@@ -1,4 +1,4 @@
--- `frame::put_header` meets its contract: the tests say which refusal or which of the header's four shapes is due, and each
+-- `frame::joining::put_header` meets its contract: the tests say which refusal or which of the header's four shapes is due, and each
 -- shape's octets fit the room.
 use mathlib.Core.Path.{_≡_, refl}
 use mathlib.Core.List.{List, [], _∷_}
@@ -9,8 +9,8 @@ use lib.ListN.{length-set}
 use Rattle.frame.specs.Joining.{shortestHeader}
 use Rattle.frame.proofs.HeaderWritten as header
 use borrow.Author.Needs.{needs}
-use Rattle.frame.proofs.put_header.Statement.{statement}
-use Rattle.frame.proofs.put_header.Tie as tie
+use Rattle.frame.proofs.joining.put_header.Statement.{statement}
+use Rattle.frame.proofs.joining.put_header.Tie as tie
 
 -- past the tests the header fits what is left of the room, whichever octets it has
 fitting :

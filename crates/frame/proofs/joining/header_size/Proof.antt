@@ -1,8 +1,8 @@
--- `frame::header_size` meets its contract.
+-- `frame::joining::header_size` meets its contract.
 use borrow.Author.Tests.{lt-ltb, le-ltb, eq-eqb, ne-eqb}
 use Rattle.frame.specs.Joining.{headerSize}
-use Rattle.frame.proofs.header_size.Statement.{statement}
-use Rattle.frame.proofs.header_size.Tie as tie
+use Rattle.frame.proofs.joining.header_size.Statement.{statement}
+use Rattle.frame.proofs.joining.header_size.Tie as tie
 
 returns : tie.Need-returns
 unfolding headerSize
