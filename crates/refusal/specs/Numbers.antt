@@ -1,4 +1,4 @@
--- The refusal numbers of document 01, "Refusal numbers", each named once for the definitions. 0 is no refusal.
+-- The refusal numbers of document 01, "Refusal numbers", each named once for the definitions, with its words.
 use Prim.Native.Nat.{ℕ}
 
 -- no refusal
@@ -37,10 +37,66 @@ lastWithLength = 7
 abbrev pub tooManySubFrames : ℕ
 tooManySubFrames = 8
 
+-- listing: hex line malformed
+abbrev pub hexMalformed : ℕ
+hexMalformed = 9
+
+-- CID not provisioned
+abbrev pub notProvisioned : ℕ
+notProvisioned = 11
+
+-- payload type not allowed there
+abbrev pub typeNotAllowed : ℕ
+typeNotAllowed = 12
+
+-- payload length wrong
+abbrev pub lengthWrong : ℕ
+lengthWrong = 13
+
+-- reserved bit or code
+abbrev pub reservedCode : ℕ
+reservedCode = 14
+
 -- value out of range
 abbrev pub valueOutOfRange : ℕ
 valueOutOfRange = 15
 
+-- coding type not in its table, or not 0 under E, H, I
+abbrev pub codingTypeUnknown : ℕ
+codingTypeUnknown = 16
+
+-- sender: edge not 0 without a change
+abbrev pub edgeWithoutChange : ℕ
+edgeWithoutChange = 17
+
 -- writer: lent room too small
 abbrev pub roomTooSmall : ℕ
 roomTooSmall = 21
+
+-- writer: over 255 octets and not last
+abbrev pub tooLongNotLast : ℕ
+tooLongNotLast = 22
+
+-- writer: frame would pass 1,600 octets or 64 sub-frames
+abbrev pub frameFull : ℕ
+frameFull = 23
+
+-- writer: last sub-frame already written
+abbrev pub alreadyLast : ℕ
+alreadyLast = 24
+
+-- provisioning: wrong key, malformed number or missing LF
+abbrev pub lineMalformed : ℕ
+lineMalformed = 31
+
+-- provisioning: value not listed
+abbrev pub valueNotListed : ℕ
+valueNotListed = 32
+
+-- provisioning: CID not above the one before
+abbrev pub cidNotRising : ℕ
+cidNotRising = 33
+
+-- provisioning: over 8,192 octets
+abbrev pub textTooLong : ℕ
+textTooLong = 34

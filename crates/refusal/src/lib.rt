@@ -1,8 +1,7 @@
 // The refusal numbers of document 01, "Refusal numbers", each named once for the code; specs/Numbers.antt names them for
-// the definitions.
-
+// the definitions, with document 01's words for each.
 pub const SOUND: u8 = 0;
-// The frame is refused whole.
+
 pub const FIELD_EMPTY: u8 = 1;
 
 pub const FIELD_TOO_LONG: u8 = 2;
@@ -18,7 +17,35 @@ pub const LENGTH_PAST_FIELD: u8 = 6;
 pub const LAST_WITH_LENGTH: u8 = 7;
 
 pub const TOO_MANY_SUB_FRAMES: u8 = 8;
-// The writer.
+
+pub const HEX_MALFORMED: u8 = 9;
+
+pub const NOT_PROVISIONED: u8 = 11;
+
+pub const TYPE_NOT_ALLOWED: u8 = 12;
+
+pub const LENGTH_WRONG: u8 = 13;
+
+pub const RESERVED_CODE: u8 = 14;
+
 pub const VALUE_OUT_OF_RANGE: u8 = 15;
 
+pub const CODING_TYPE_UNKNOWN: u8 = 16;
+
+pub const EDGE_WITHOUT_CHANGE: u8 = 17;
+
 pub const ROOM_TOO_SMALL: u8 = 21;
+
+pub const TOO_LONG_NOT_LAST: u8 = 22;
+
+pub const FRAME_FULL: u8 = 23;
+
+pub const ALREADY_LAST: u8 = 24;
+
+pub const LINE_MALFORMED: u8 = 31;
+
+pub const VALUE_NOT_LISTED: u8 = 32;
+
+pub const CID_NOT_RISING: u8 = 33;
+
+pub const TEXT_TOO_LONG: u8 = 34;
