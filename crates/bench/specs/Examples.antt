@@ -30,6 +30,7 @@ examples =
     ∷ record { bench = 4; given = checked (0x85 ∷ 0x10 ∷ []); due = 5 ∷ [] }
     ∷ record { bench = 5; given = checked (0x45 ∷ 0x03 ∷ 0xaa ∷ 0xbb ∷ []); due = 6 ∷ [] }
     ∷ record { bench = 6; given = checked (0x45 ∷ 0x02 ∷ 0xaa ∷ 0xbb ∷ []); due = 7 ∷ [] }
+    ∷ record { bench = 7; given = checked (0x85 ∷ 0x00 ∷ 0xaa ∷ []) ++ checked (0x05 ∷ 0xaa ∷ []); due = 0 ∷ 0 ∷ [] }
     ∷ record { bench = 7; given = flat (list (0x85 ∷ 0x00 ∷ 0xaa ∷ [])); due = flat (list (0x05 ∷ 0xaa ∷ [])) }
     ∷ record { bench = 7; given = flat (list (0x85 ∷ 0x00 ∷ 0xaa ∷ [])); due = 5 ∷ 0 ∷ 0xaa ∷ [] }
     ∷ record { bench = 7; given = joined (list (0x85 ∷ 0x00 ∷ 0xaa ∷ [])); due = 0x05 ∷ 0xaa ∷ [] }

@@ -14,5 +14,5 @@ pub record Laws (k : ℕ) : Type 0 where
   pub steps : (a d : ℕ) → d < 2 ^ k → step k (a % 2 ^ k) ((a + d) % 2 ^ k) ≡ d
   -- going on by the step arrives
   pub arrives : (a b : ℕ) → onward k a (step k a b) ≡ b % 2 ^ k
-  -- the step is 0 exactly when the counts are equal
+  -- the step is 0 exactly when the counts are equal, round the width
   pub zero-when-equal : (a b : ℕ) → step k a b ≡ 0 ↔ a % 2 ^ k ≡ b % 2 ^ k

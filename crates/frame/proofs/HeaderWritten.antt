@@ -12,9 +12,10 @@ use lib.ListN.{length, take, drop}
 use lib.Seq.{sets, sets-eq}
 use Rattle.octets.proofs.Order.{lt-or-le, eq-or-ne}
 use Rattle.refusal.specs.Numbers.{cidReserved, valueOutOfRange, roomTooSmall}
-use Rattle.frame.specs.declared.joining.Put.{Put}
-use Rattle.frame.specs.declared.joining.Put.the-variants.{Written, NotWritten}
-use Rattle.frame.specs.Joining.{eiFor, liFor, headerWith, shortestHeader, headerSize, headerPut, written, leftBy}
+use Rattle.octets.specs.declared.Put.{Put}
+use Rattle.octets.specs.declared.Put.the-variants.{Written, NotWritten}
+use Rattle.octets.specs.Room.{leftBy}
+use Rattle.frame.specs.Joining.{eiFor, liFor, headerWith, shortestHeader, headerSize, headerPut}
 
 module _ (cid ptype : ℕ) where
   -- EI is left out where octet 1a would be 0, and set otherwise

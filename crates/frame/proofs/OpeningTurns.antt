@@ -1,20 +1,22 @@
--- The loop of `open`: what stands in the answer's places, and what is still to come of the opening.
+-- The loop of `scan`: what stands in the answer's places, and what is still to come of the opening.
 use Prim.Native.Nat.{ℕ, zero, suc, _+_, _-_, _<_, _≤_}
 use mathlib.Core.Path.{_≡_, refl, sym, ap, subst, _∙_}
 use mathlib.Core.List.{List, [], _∷_, _++_, append-assoc, append-nil}
 use mathlib.Core.Bool.{true, false}
+use mathlib.Core.Logic.{⊎-elim}
 use native.Mathlib.Omega.{arith}
 use native.Mathlib.Numerals.{add-one}
 use borrow.Author.Tests.{lt-ltb, le-ltb, eq-eqb, ne-eqb}
 use lib.ListN.{length, replicate, set, length-append}
 use lib.Seq.{set-at, append-snoc}
+use Rattle.octets.proofs.Order.{eq-or-ne}
 use Rattle.refusal.specs.Numbers.{sound, fieldEmpty, fieldTooLong, tooManySubFrames}
 use Rattle.frame.specs.declared.header.SubFrame.{SubFrame}
 use Rattle.frame.specs.declared.header.Header.{Header}
 use Rattle.frame.specs.declared.header.Header.the-variants.{Sub, Bad, Past}
 use Rattle.frame.specs.declared.opening.Opened.{Opened}
 use Rattle.frame.specs.Header.{headerAt}
-use Rattle.frame.specs.Opening.{Opening, stopped, before, endOf, endOfHeader, onwards, scan, opening, unused, answer}
+use Rattle.frame.specs.Opening.{Opening, stopped, before, endOf, endOfHeader, onwards, scan, scanned, opening, unused, answer}
 
 -- sub-frames that were found, before what is still to come
 abbrev pub behind : List SubFrame → Opening → Opening
@@ -30,18 +32,32 @@ pub record Going (s : List ℕ) (whole : Opening) (subs : List SubFrame) (at cou
   pub opens : whole ≡ behind found (scan (64 - count) s at)
 
 module _ (s : List ℕ) where
-  pub empty : length s ≡ 0 → opening s ≡ stopped fieldEmpty 0
-  unfolding opening
+  pub empty : length s ≡ 0 → scanned s ≡ stopped fieldEmpty 0
+  unfolding scanned
   empty h = simp (eq-eqb (length s) 0 h)
 
   module _ (some : length s ≡ 0 → ⊥) where
-    pub long : 1600 < length s → opening s ≡ stopped fieldTooLong 0
-    unfolding opening
+    pub long : 1600 < length s → scanned s ≡ stopped fieldTooLong 0
+    unfolding scanned
     long h = simp (ne-eqb (length s) 0 some, lt-ltb 1600 (length s) h)
 
-    pub scanned : length s ≤ 1600 → opening s ≡ scan 64 s 0
-    unfolding opening
-    scanned h = simp (ne-eqb (length s) 0 some, le-ltb 1600 (length s) h)
+    pub scans : length s ≤ 1600 → scanned s ≡ scan 64 s 0
+    unfolding scanned
+    scans h = simp (ne-eqb (length s) 0 some, le-ltb 1600 (length s) h)
+
+  -- all of a sound scan is handed out, and no sub-frame of any other
+  pub sound-is : scanned s .number ≡ sound → opening s ≡ scanned s
+  unfolding opening
+  sound-is h = simp (eq-eqb (scanned s .number) sound h)
+
+  pub refused-is : (scanned s .number ≡ sound → ⊥) → opening s ≡ stopped (scanned s .number) (scanned s .at)
+  unfolding opening
+  refused-is h = simp (ne-eqb (scanned s .number) sound h)
+
+  pub number-is : opening s .number ≡ scanned s .number
+  number-is =
+      ⊎-elim (λ h. ap (λ (o : Opening). o .number) (sound-is h)) (λ h. ap (λ (o : Opening). o .number) (refused-is h))
+      (eq-or-ne (scanned s .number) sound)
 
 pub begins : (s : List ℕ) → Going s (scan 64 s 0) (replicate 64 unused) 0 0
 begins s = record { found = []; many = refl; within = omega arith; stands = refl; opens = refl }

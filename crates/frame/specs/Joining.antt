@@ -4,10 +4,10 @@ use Prim.Native.Nat.{ℕ, _+_, _-_, _*_, _/_, _%_}
 use mathlib.Core.List.{List, [], _∷_, _++_}
 use mathlib.Core.Bool.{Bool, true, false, cond}
 use lib.Dec.{ltb, eqb}
-use lib.ListN.{length, take, drop}
+use lib.ListN.{length}
 use Rattle.refusal.specs.Numbers.{cidReserved, valueOutOfRange, roomTooSmall}
-use Rattle.frame.specs.declared.joining.Put.{Put}
-use Rattle.frame.specs.declared.joining.Put.the-variants.{Written, NotWritten}
+use Rattle.octets.specs.declared.Put.{Put}
+use Rattle.octets.specs.declared.Put.the-variants.{Written, NotWritten}
 
 -- "Writing sets EI only when CID exceeds 63 or the type is not 0."
 abbrev pub eiFor : ℕ → ℕ → ℕ
@@ -46,18 +46,10 @@ unfoldable pub joined : List Content → List ℕ
 joined [] = []
 joined (c ∷ cs) = shortestHeader (c .cid) (c .ptype) (isNone cs) (length (c .payload)) ++ c .payload ++ joined cs
 
--- What writing a header at a place of lent room answers: the place after it, or 4, 15 for a type beyond its four bits, or 21.
+-- What writing a header at a place of lent room answers, with `left` octets from there on: the place after it, or 4, 15 for a
+-- type beyond its four bits, or 21 for the header alone.
 unfoldable pub headerPut : ℕ → ℕ → ℕ → ℕ → Bool → Put
 headerPut left at cid ptype last =
     cond (ltb cid 4) (NotWritten cidReserved)
     (cond (ltb 15 ptype) (NotWritten valueOutOfRange)
     (cond (ltb left (headerSize cid ptype last)) (NotWritten roomTooSmall) (Written (at + headerSize cid ptype last))))
-
--- the room with octets written from a place on
-abbrev pub written : List ℕ → ℕ → List ℕ → List ℕ
-written room at octets = take at room ++ octets ++ drop (at + length octets) room
-
--- what the room holds then: "a refusal leaves lent memory untouched"
-abbrev pub leftBy : Put → List ℕ → ℕ → List ℕ → List ℕ
-leftBy (Written next) room at octets = written room at octets
-leftBy (NotWritten number) room at octets = room

@@ -18,8 +18,8 @@ mostOctets = 1600
 abbrev pub mostSubFrames : ℕ
 mostSubFrames = 64
 
--- What opening tells: the refusal number and the place of the offending sub-frame's first octet, or 0 and the end of the
--- field; and the sub-frames before that place, in order: all of them where the frame is sound.
+-- What a scan of the headers tells: the refusal number and the place of the offending sub-frame's first octet (0 for 1 and 2),
+-- or 0 and the end of the field; and the sub-frames before that place, in order.
 pub record Opening : Type 0 where
   pub number : ℕ
   pub at : ℕ
@@ -41,7 +41,7 @@ endOfHeader (Sub sub) = endOf sub
 endOfHeader (Bad number) = 0
 endOfHeader Past = 0
 
--- a header at a place, and what follows it
+-- a header at a place, and what follows it. A scan begins no header past the end: 7 comes before that.
 abbrev pub onwards : Header → ℕ → Opening → Opening
 onwards (Sub sub) at rest = before sub (cond (sub .last) (stopped sound (endOf sub)) rest)
 onwards (Bad number) at rest = stopped number at
@@ -52,11 +52,19 @@ unfoldable pub scan : ℕ → List ℕ → ℕ → Opening
 scan zero s at = stopped tooManySubFrames at
 scan (suc room) s at = onwards (headerAt s at) at (scan room s (endOfHeader (headerAt s at)))
 
-unfoldable pub opening : List ℕ → Opening
-opening s =
+-- the whole field: 1, then 2, then the sub-frames
+unfoldable pub scanned : List ℕ → Opening
+scanned s =
     cond (eqb (length s) 0) (stopped fieldEmpty 0)
     (cond (ltb mostOctets (length s)) (stopped fieldTooLong 0)
     (scan mostSubFrames s 0))
+
+-- "1 to 8 refuse the whole frame: number, offset .., no sub-frame."
+abbrev pub allOrNone : Opening → Opening
+allOrNone o = cond (eqb (o .number) sound) o (stopped (o .number) (o .at))
+
+unfoldable pub opening : List ℕ → Opening
+opening s = allOrNone (scanned s)
 
 -- an unused place of the answer
 abbrev pub unused : SubFrame

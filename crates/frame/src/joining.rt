@@ -1,16 +1,10 @@
 // Writing the header of a sub-frame in its shortest form (document 01, "Frame and sub-frame").
+use octets::Put;
 ghost use mathlib.Core.Path.{_≡_};
 ghost use Prim.Native.Nat.{_-_};
 ghost use lib.ListN.{length};
-ghost use Rattle.frame.specs.Joining.{shortestHeader, headerSize, headerPut, leftBy};
-
-// What writing into lent room answers.
-pub enum Put {
-    // The place after what was written.
-    Written(usize),
-    // The refusal number; the room is as it was.
-    NotWritten(u8),
-}
+ghost use Rattle.frame.specs.Joining.{shortestHeader, headerSize, headerPut};
+ghost use Rattle.octets.specs.Room.{leftBy};
 
 // The octets of a header in its shortest form.
 pub fn header_size(cid: u8, ptype: u8, last: bool) -> usize

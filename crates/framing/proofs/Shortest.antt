@@ -17,7 +17,7 @@ use Rattle.frame.specs.declared.header.SubFrame.{SubFrame}
 use Rattle.frame.specs.declared.header.Header.{Header}
 use Rattle.frame.specs.declared.header.Header.the-variants.{Sub, Bad}
 use Rattle.frame.specs.Header.{ei, octet1, headerAt}
-use Rattle.frame.specs.Opening.{Opening, scan, opening, onwards, endOfHeader, before, stopped, endOf}
+use Rattle.frame.specs.Opening.{Opening, scan, scanned, opening, onwards, endOfHeader, before, stopped, endOf}
 use Rattle.frame.specs.Joining.{Content, isNone, joined, eiFor, liFor, headerWith, shortestHeader, headerSize}
 use Rattle.frame.proofs.HeaderWritten.{ei-one-of, with-size, size-is}
 use Rattle.frame.proofs.HeaderInverse as inverse
@@ -181,6 +181,7 @@ module _ (s : List ℕ) (octets : Octets s) where
 -- a sound frame is neither empty nor too long
 passes : (s : List ℕ) → Sound s → (1 ≤ length s) × (length s ≤ 1600)
 passes s good =
+    let number : scanned s .number ≡ sound = sym (turns.number-is s) ∙ good in
     ⊎-elim (λ empty. absurd (omega (arith, ap (λ (o : Opening). o .number) (turns.empty s empty))))
     (λ some.
     ⊎-elim (λ long. absurd (omega (arith, ap (λ (o : Opening). o .number) (turns.long s some long)))) (λ short. (omega arith, short))
@@ -190,7 +191,7 @@ passes s good =
 pub as-long-as-joined : AsLongAsJoined
 as-long-as-joined s octets good =
     let p = passes s good in
-    let is : opening s ≡ scan 64 s 0 = turns.scanned s (λ z. omega (arith, p .0)) (p .1) in
+    let is : opening s ≡ scan 64 s 0 = turns.sound-is s (sym (turns.number-is s) ∙ good) ∙ turns.scans s (λ z. omega (arith, p .0)) (p .1) in
     let f = subst (λ (o : Opening). From s 64 0 (o .subs)) (sym is) (from s octets 64 0 (p .0) (sym (ap (λ (o : Opening). o .number) is) ∙ good)) in
     let whole : length s - 0 ≡ length (joined (list s)) + needless s 0 (opening s .subs) = f .longer in
     record {

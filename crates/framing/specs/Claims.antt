@@ -1,6 +1,6 @@
 -- Demand 2, for frames: what is joined opens to the same list, and the joined form is the one shortest (document 01, "Frame
--- and sub-frame"). `opening` and `joined` are the definitions that the contracts of `frame::open` and `frame::put_header`
--- name. Proved in proofs/Same.antt, proofs/Shortest.antt and proofs/Octets.antt.
+-- and sub-frame"). `opening` is what `frame::opening::open` answers by its contract, and `joined` is made of `shortestHeader`,
+-- which `frame::joining::put_header` writes by its contract. Proved in proofs/Same.antt, proofs/Shortest.antt and proofs/Octets.antt.
 use Prim.Native.Nat.{ℕ, _+_, _<_, _≤_}
 use mathlib.Core.Path.{_≡_}
 use mathlib.Core.List.{List, [], _∷_, _++_, map}
@@ -84,7 +84,7 @@ PayloadOctets (c ∷ cs) = Octets (c .payload) × PayloadOctets cs
 abbrev pub JoinedOctets : Type 0
 JoinedOctets = (cs : List Content) → Fits cs → PayloadOctets cs → Octets (joined cs)
 
--- The hypotheses can be met: 64 sub-frames, 1,600 octets in all.
+-- A list for which the hypotheses are met: 64 sub-frames, 1,600 octets in all (proofs/Octets.antt, `fullest-fits`).
 abbrev pub content : ℕ → ℕ → List ℕ → Content
 content cid ptype payload = record { cid = cid; ptype = ptype; payload = payload }
 

@@ -1,1 +1,46 @@
 // Octets in lent memory.
+ghost use mathlib.Core.Path.{_≡_};
+ghost use mathlib.Core.List.{_++_};
+ghost use Prim.Native.Nat.{_+_, _≤_};
+ghost use lib.ListN.{length};
+ghost use Rattle.octets.specs.Room.{put, written, leftBy};
+
+// What writing into lent room answers.
+pub enum Put {
+    // The place after what was written.
+    Written(usize),
+    // The refusal number; the room is as it was.
+    NotWritten(u8),
+}
+
+// Stores the octets of `from` in the room from a place on, where they fit.
+fn copy(room: &mut [u8], at: usize, from: &[u8])
+    requires { ⌜ at + length (now from) ≤ length (now room) ⌝ }
+    ensures { λ r. ⌜ now (room .exit) ≡ written (now (room .entry)) at (now (from .entry)) ⌝ }
+{
+    let mut i = 0;
+    while i < from.len() {
+        room[at + i] = from[i];
+        i += 1;
+    }
+}
+
+// Writes two runs of octets, one behind the other, at a place of lent room: 21 exactly when they exceed what is left of it.
+pub fn put_both(room: &mut [u8], at: usize, head: &[u8], body: &[u8]) -> Put
+    ensures answer { λ r. ⌜ r ≡ put (now (room .entry)) at (now (head .entry) ++ now (body .entry)) ⌝ }
+    ensures holds { λ r. ⌜ now (room .exit) ≡ leftBy r (now (room .entry)) at (now (head .entry) ++ now (body .entry)) ⌝ }
+{
+    if room.len() < at {
+        return Put::NotWritten(refusal::ROOM_TOO_SMALL);
+    }
+    let left = room.len() - at;
+    if left < head.len() {
+        return Put::NotWritten(refusal::ROOM_TOO_SMALL);
+    }
+    if left - head.len() < body.len() {
+        return Put::NotWritten(refusal::ROOM_TOO_SMALL);
+    }
+    copy(room, at, head);
+    copy(room, at + head.len(), body);
+    Put::Written(at + head.len() + body.len())
+}

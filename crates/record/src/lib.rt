@@ -1,0 +1,2 @@
+// Provisioning (document 01, "Provisioning text").
+pub mod syntax;
