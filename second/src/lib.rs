@@ -1,0 +1,34 @@
+//! The second program: an independent implementation of document 01 (rules and
+//! scope of the build) and FRF.11, used as evidence against the proved one.
+//!
+//! One module a heading of document 01:
+//!
+//! - `frame`, `voice_card`: "Frame and sub-frame"
+//! - `refusal`, `writer`: "Refusal numbers" (the writer's rules stand there)
+//! - `provisioning`: "Provisioning text"
+//! - `payload`: "Payload types", a module for each layout
+//! - `senders`: "Senders, per 20 ms"
+//! - `receivers`: "Receivers"
+//! - `listing`: "Listing program"
+//! - `bench`: "Bench examples"
+//!
+//! And what belongs to no heading: `trial` (docs/TRIAL.md), `generate` (inputs
+//! made from a seed), `histogram`, and the small helpers `hex` and `lines`.
+
+#![forbid(unsafe_code)]
+
+pub mod bench;
+pub mod frame;
+pub mod generate;
+pub mod hex;
+pub mod histogram;
+pub mod lines;
+pub mod listing;
+pub mod payload;
+pub mod provisioning;
+pub mod receivers;
+pub mod refusal;
+pub mod senders;
+pub mod trial;
+pub mod voice_card;
+pub mod writer;

@@ -1,0 +1,72 @@
+//! The command line of the second program.
+
+#![forbid(unsafe_code)]
+
+use second::{bench, generate, histogram, listing, trial};
+use std::io::{self, BufReader, BufWriter, Stdin, Stdout};
+use std::process::ExitCode;
+
+/// Standard input is read and standard output written in pieces of this size.
+const PIECE: usize = 1 << 18;
+
+const USAGE: &str = "usage: second list
+       second trial
+       second generate list SEED COUNT
+       second generate text SEED
+       second generate trial SEED COUNT
+       second histogram
+       second bench";
+
+/// Standard input.
+fn input() -> BufReader<Stdin> {
+    BufReader::with_capacity(PIECE, io::stdin())
+}
+
+/// Standard output.
+fn output() -> BufWriter<Stdout> {
+    BufWriter::with_capacity(PIECE, io::stdout())
+}
+
+/// A seed or a count.
+fn number(word: &str) -> io::Result<u64> {
+    word.parse().map_err(|_| usage())
+}
+
+/// The error of a wrong command line.
+fn usage() -> io::Error {
+    io::Error::new(io::ErrorKind::InvalidInput, USAGE)
+}
+
+/// Does what the command line says; whether all is well.
+fn run(words: &[&str]) -> io::Result<bool> {
+    match words {
+        ["list"] => listing::run(input(), output())?,
+        ["trial"] => trial::run(input(), output())?,
+        ["generate", "list", seed, count] => {
+            generate::list::run(number(seed)?, number(count)?, output())?
+        }
+        ["generate", "text", seed] => generate::text::run(number(seed)?, output())?,
+        ["generate", "trial", seed, count] => {
+            generate::trial::run(number(seed)?, number(count)?, output())?
+        }
+        ["histogram"] => histogram::run(input(), output())?,
+        ["bench"] => return bench::run(output()),
+        _ => return Err(usage()),
+    }
+    Ok(true)
+}
+
+fn main() -> ExitCode {
+    let arguments: Vec<String> = std::env::args().skip(1).collect();
+    let words: Vec<&str> = arguments.iter().map(String::as_str).collect();
+    match run(&words) {
+        Ok(true) => ExitCode::SUCCESS,
+        Ok(false) => ExitCode::FAILURE,
+        // What reads the output stopped early, as a listing may: nothing is wrong.
+        Err(error) if error.kind() == io::ErrorKind::BrokenPipe => ExitCode::SUCCESS,
+        Err(error) => {
+            eprintln!("{error}");
+            ExitCode::from(2)
+        }
+    }
+}
