@@ -1,7 +1,5 @@
 // The header of a sub-frame, read (document 01, "Frame and sub-frame" and refusals 3 to 7).
 ghost use mathlib.Core.Path.{_≡_};
-ghost use mathlib.Core.Bool.{cond};
-ghost use lib.Dec.{eqb};
 ghost use Rattle.frame.specs.Header.{headerAt};
 
 // A sub-frame of a frame: its payload is the len octets of the frame from start on.
@@ -22,13 +20,6 @@ pub enum Header {
     Past,
 }
 
-// Octet 1a where EI is set, and 0 without it.
-fn octet_where(ei: usize, octet: u8) -> u8
-    ensures { λ r. ⌜ r ≡ cond (eqb ei 0) 0 octet ⌝ }
-{
-    if ei == 0 { 0 } else { octet }
-}
-
 // The header whose first octet stands at `at`.
 pub fn header_at(frame: &[u8], at: usize) -> Header
     ensures { λ r. ⌜ r ≡ headerAt (now (frame .entry)) at ⌝ }
@@ -44,7 +35,7 @@ pub fn header_at(frame: &[u8], at: usize) -> Header
     if left < size {
         return Header::Bad(refusal::HEADER_CUT);
     }
-    let octet1a = octet_where(ei, frame[at + ei]);
+    let octet1a = octets::octet_where(ei, frame[at + ei]);
     // Not looked at where LI is 0.
     let octet1b = frame[at + ei + li] as usize;
     let cid = octet1a / 64 * 64 + octet1 % 64;

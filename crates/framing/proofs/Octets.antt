@@ -7,9 +7,10 @@ use mathlib.Core.Logic.{_⊎_, inl, inr, ⊎-elim}
 use native.Mathlib.Omega.{arith}
 use lib.Dec.{T, eqb}
 use lib.ListN.{length, getD, replicate}
+use Rattle.octets.specs.Octets.{Octets}
 use Rattle.frame.specs.Joining.{Content, isNone, joined, eiFor, liFor, headerWith, shortestHeader}
 use Rattle.frame.proofs.HeaderWritten.{ei-one-of}
-use Rattle.framing.specs.Claims.{Carriable, Each, Fits, Octets, PayloadOctets, JoinedOctets, content, fullest}
+use Rattle.framing.specs.Claims.{Carriable, Each, Fits, PayloadOctets, JoinedOctets, content, fullest}
 
 octets-none : Octets []
 octets-none i = omega arith

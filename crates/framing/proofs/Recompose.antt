@@ -19,7 +19,7 @@ use Rattle.frame.specs.Opening.{endOf}
 use Rattle.frame.specs.Joining.{eiFor, liFor, headerWith}
 use Rattle.frame.proofs.HeaderWritten.{ei-out}
 use Rattle.frame.proofs.HeaderInverse as inverse
-use Rattle.framing.specs.Claims.{Octets}
+use Rattle.octets.specs.Octets.{Octets}
 
 -- the first one to three octets of a list, one by one
 heads :

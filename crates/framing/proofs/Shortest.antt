@@ -13,6 +13,7 @@ use lib.ListN.{length, getD, take, drop, length-append, length-drop, length-map,
 use lib.Seq.{drop-drop, drop-length, length-take-le}
 use Rattle.octets.proofs.Order.{lt-or-le, eq-or-ne}
 use Rattle.refusal.specs.Numbers.{sound}
+use Rattle.octets.specs.Octets.{Octets}
 use Rattle.frame.specs.declared.header.SubFrame.{SubFrame}
 use Rattle.frame.specs.declared.header.Header.{Header}
 use Rattle.frame.specs.declared.header.Header.the-variants.{Sub, Bad}
@@ -23,7 +24,7 @@ use Rattle.frame.proofs.HeaderWritten.{ei-one-of, with-size, size-is}
 use Rattle.frame.proofs.HeaderInverse as inverse
 use Rattle.frame.proofs.HeaderCases as cases
 use Rattle.frame.proofs.OpeningTurns as turns
-use Rattle.framing.specs.Claims.{Carriable, Each, Fits, contentOf, list, Sound, Octets, needless, Longer, AsLongAsJoined, OneShortest}
+use Rattle.framing.specs.Claims.{Carriable, Each, Fits, contentOf, list, Sound, needless, Longer, AsLongAsJoined, OneShortest}
 use Rattle.framing.proofs.Recompose as made
 use Rattle.framing.proofs.Same as same
 

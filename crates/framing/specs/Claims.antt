@@ -1,12 +1,13 @@
 -- Demand 2, for frames: what is joined opens to the same list, and the joined form is the one shortest (document 01, "Frame
 -- and sub-frame"). `opening` is what `frame::opening::open` answers by its contract, and `joined` is made of `shortestHeader`,
 -- which `frame::joining::put_header` writes by its contract. Proved in proofs/Same.antt, proofs/Shortest.antt and proofs/Octets.antt.
-use Prim.Native.Nat.{ℕ, _+_, _<_, _≤_}
+use Prim.Native.Nat.{ℕ, _+_, _≤_}
 use mathlib.Core.Path.{_≡_}
 use mathlib.Core.List.{List, [], _∷_, _++_, map}
 use mathlib.Core.Bool.{Bool, false, cond}
 use lib.Dec.{eqb}
 use lib.ListN.{length, getD, take, drop, replicate}
+use Rattle.octets.specs.Octets.{Octets}
 use Rattle.refusal.specs.Numbers.{sound}
 use Rattle.frame.specs.declared.header.SubFrame.{SubFrame}
 use Rattle.frame.specs.Header.{ei}
@@ -46,10 +47,6 @@ Sound s = opening s .number ≡ sound
 -- What is joined opens to the same list.
 abbrev pub OpensToTheSame : Type 0
 OpensToTheSame = (cs : List Content) → Fits cs → Sound (joined cs) × (list (joined cs) ≡ cs)
-
--- Every octet is below 256.
-abbrev pub Octets : List ℕ → Type 0
-Octets s = (i : ℕ) → getD s i 0 < 256
 
 -- How many of the sub-frames that begin at `at` have an octet 1a that they do not need: EI is 1, the CID is below 64 and the
 -- type is 0.

@@ -1,1 +1,3 @@
 pub mod Room
+pub mod Made
+pub mod Octets

@@ -1,7 +1,7 @@
--- `frame::header::octet_where` meets its contract.
+-- `octets::octet_where` meets its contract.
 use borrow.Author.Tests.{eq-eqb, ne-eqb}
-use Rattle.frame.proofs.header.octet_where.Statement.{statement}
-use Rattle.frame.proofs.header.octet_where.Tie as tie
+use Rattle.octets.proofs.octet_where.Statement.{statement}
+use Rattle.octets.proofs.octet_where.Tie as tie
 
 returns : tie.Need-returns
 returns c = simp (eq-eqb _ _ (c .if1 .taken))

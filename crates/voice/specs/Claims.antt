@@ -1,0 +1,25 @@
+-- Voice payloads written and read (demand 2). Proved in proofs/VoiceBack.antt.
+use Prim.Native.Nat.{ℕ}
+use mathlib.Core.Path.{_≡_}
+use mathlib.Core.List.{List}
+use lib.ListN.{drop}
+use Rattle.octets.specs.Octets.{Octets}
+use Rattle.octets.specs.Made.{made}
+use Rattle.record.specs.declared.syntax.Record.{Record}
+use Rattle.voice.specs.declared.voice.VoiceRead.the-variants.{Voice}
+use Rattle.voice.specs.Voice.{frontOf, voiceRead, voiceMade}
+
+-- What is made reads back.
+abbrev pub VoiceReadsBack : Type 0
+VoiceReadsBack =
+    (r : Record) (sequence coding : ℕ) (body octets : List ℕ)
+    → voiceMade r sequence coding body ≡ made octets
+    → (voiceRead r octets ≡ Voice (record { 0 = sequence }) coding (frontOf r)) × (drop (frontOf r) octets ≡ body)
+
+-- What is read is made again, to the octet.
+abbrev pub VoiceMadeAgain : Type 0
+VoiceMadeAgain =
+    (r : Record) (sequence coding front : ℕ) (octets : List ℕ)
+    → Octets octets
+    → voiceRead r octets ≡ Voice (record { 0 = sequence }) coding front
+    → (front ≡ frontOf r) × (voiceMade r sequence coding (drop front octets) ≡ made octets)

@@ -1,0 +1,2 @@
+// Voice payloads and silence descriptors (document 01, "Payload types").
+pub mod voice;
