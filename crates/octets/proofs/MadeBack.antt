@@ -21,6 +21,9 @@ pub unfit-unmade : (m : Made) (number : ℕ) → fitOf m ≡ Unfit number → m 
 unfit-unmade (made octets) number e = never (Octets _) _ number refl e
 unfit-unmade (unmade n) number e = let same : n ≡ number = cc in ap unmade same
 
+pub same-size : (f : Fit) (m n : ℕ) → f ≡ Octets m → f ≡ Octets n → m ≡ n
+same-size f m n p q = cc
+
 pub same-made : (m : Made) (a b : List ℕ) → m ≡ made a → m ≡ made b → a ≡ b
 same-made m a b p q = cc
 

@@ -1,3 +1,5 @@
 pub mod Sizes
 pub mod VoiceCases
 pub mod VoiceBack
+pub mod SidCases
+pub mod SidBack

@@ -1,11 +1,15 @@
--- Voice payloads written and read (demand 2). Proved in proofs/VoiceBack.antt.
-use Prim.Native.Nat.{ℕ}
+-- Voice payloads and silence descriptors, written and read (demand 2). Proved in proofs/VoiceBack.antt and proofs/SidBack.antt.
+use Prim.Native.Nat.{ℕ, _*_, _/_, _%_}
 use mathlib.Core.Path.{_≡_}
-use mathlib.Core.List.{List}
+use mathlib.Core.List.{List, [], _∷_}
 use lib.ListN.{drop}
 use Rattle.octets.specs.Octets.{Octets}
 use Rattle.octets.specs.Made.{made}
 use Rattle.record.specs.declared.syntax.Record.{Record}
+use Rattle.record.specs.declared.syntax.Syntax.{Syntax}
+use Rattle.voice.specs.declared.sid.Sid.{Sid}
+use Rattle.voice.specs.declared.sid.SidRead.the-variants.{Silence}
+use Rattle.voice.specs.Sid.{sidRead, sidMade}
 use Rattle.voice.specs.declared.voice.VoiceRead.the-variants.{Voice}
 use Rattle.voice.specs.Voice.{frontOf, voiceRead, voiceMade}
 
@@ -23,3 +27,21 @@ VoiceMadeAgain =
     → Octets octets
     → voiceRead r octets ≡ Voice (record { 0 = sequence }) coding front
     → (front ≡ frontOf r) × (voiceMade r sequence coding (drop front octets) ≡ made octets)
+
+-- A silence descriptor that is made reads back.
+abbrev pub SidReadsBack : Type 0
+SidReadsBack = (syntax : Syntax) (sid : Sid) (octets : List ℕ) → sidMade syntax sid ≡ made octets → sidRead syntax octets ≡ Silence sid
+
+-- the octets without their reserved bits, which reading ignores
+abbrev pub unreserved : List ℕ → List ℕ
+unreserved [] = []
+unreserved (a ∷ []) = a ∷ []
+unreserved (a ∷ b ∷ rest) = (a / 16 * 16) ∷ (b % 64) ∷ rest
+
+-- One that is read is made again, to the octet but for the reserved bits.
+abbrev pub SidMadeAgain : Type 0
+SidMadeAgain =
+    (syntax : Syntax) (sid : Sid) (octets : List ℕ)
+    → Octets octets
+    → sidRead syntax octets ≡ Silence sid
+    → sidMade syntax sid ≡ made (unreserved octets)

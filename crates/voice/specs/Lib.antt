@@ -1,2 +1,3 @@
 pub mod Voice
+pub mod Sid
 pub mod Claims

@@ -28,7 +28,7 @@ pub enum VoiceRead {
 }
 
 // How many coding types a syntax has; data and fax have none.
-fn coding_count(syntax: Syntax) -> u8
+pub fn coding_count(syntax: Syntax) -> u8
     ensures { λ r. ⌜ r ≡ codings syntax ⌝ }
 {
     match syntax {
