@@ -1,0 +1,2 @@
+pub mod LayoutCases
+pub mod LayoutBack

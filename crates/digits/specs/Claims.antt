@@ -1,0 +1,60 @@
+-- Digits payloads written and read (demand 2). Proved in proofs/LayoutBack.antt.
+use Prim.Native.Nat.{ℕ, _/_}
+use mathlib.Core.Path.{_≡_}
+use mathlib.Core.List.{List, [], _∷_}
+use mathlib.Core.Bool.{cond}
+use lib.Dec.{eqb}
+use lib.ListN.{getD}
+use lib.IntN.{ℤ, pos, negsuc}
+use Rattle.octets.specs.Octets.{Octets}
+use Rattle.octets.specs.Made.{made}
+use Rattle.digits.specs.declared.layout.Window.{Window}
+use Rattle.digits.specs.declared.layout.Digits.{Digits}
+use Rattle.digits.specs.declared.layout.DigitsRead.the-variants.{Dialled}
+use Rattle.digits.specs.Layout.{digitsRead, digitsMade}
+
+-- "save that a level above zero and the code of an off window come back as 0"
+abbrev pub normalLevel : ℤ → ℤ
+normalLevel (pos n) = pos 0
+normalLevel (negsuc n) = negsuc n
+
+abbrev pub normalWindow : Window → Window
+normalWindow w = record { on = w .on; edge = w .edge; code = cond (w .on) (w .code) 0 }
+
+abbrev pub normal : Digits → Digits
+normal d =
+    record {
+      sequence = d .sequence;
+      level = normalLevel (d .level);
+      current = normalWindow (d .current);
+      recent = normalWindow (d .recent);
+      previous = normalWindow (d .previous);
+    }
+
+-- What is made reads back, but for those two.
+abbrev pub DigitsReadBack : Type 0
+DigitsReadBack = (d : Digits) (octets : List ℕ) → digitsMade d ≡ made octets → digitsRead octets ≡ Dialled (normal d)
+
+-- the code octet of a window, without the code that reading ignores
+abbrev pub heard : ℕ → ℕ → ℕ
+heard a b = cond (eqb (a / 32) 1) b 0
+
+abbrev pub unheard : List ℕ → List ℕ
+unheard p =
+    getD p 0 0
+    ∷ getD p 1 0
+    ∷ getD p 2 0
+    ∷ heard (getD p 2 0) (getD p 3 0)
+    ∷ getD p 4 0
+    ∷ heard (getD p 4 0) (getD p 5 0)
+    ∷ getD p 6 0
+    ∷ heard (getD p 6 0) (getD p 7 0)
+    ∷ []
+
+-- What is read is in its normal form, and is made again, to the octet but for the code of an off window.
+abbrev pub DigitsMadeAgain : Type 0
+DigitsMadeAgain =
+    (d : Digits) (octets : List ℕ)
+    → Octets octets
+    → digitsRead octets ≡ Dialled d
+    → (normal d ≡ d) × (digitsMade d ≡ made (unheard octets))

@@ -1,0 +1,228 @@
+// Digits payloads, read and written (document 01, "Payload types": digits; FRF.11, A.3).
+use counts::DigitCount;
+use levels::Coded;
+use octets::Fit;
+use octets::Put;
+ghost use mathlib.Core.Path.{_≡_};
+ghost use Rattle.octets.specs.Made.{fitOf, putMade, leftMade};
+ghost use Rattle.digits.specs.Layout.{windowReserved, windowOut, windowOf, judged, digitsRead, windowWrong, levelLow, levelCode, windowFirst, windowSecond, digitsHead, digitsMade};
+ghost use Rattle.levels.specs.Level.{codeOf};
+
+// One 20 ms period: off or on with a code, and where in it the change lies, in ms.
+pub struct Window {
+    pub on: bool,
+    pub edge: u8,
+    pub code: u8,
+}
+
+// A digits payload: the level, 0 to -31 dBm0, and three periods.
+pub struct Digits {
+    pub sequence: DigitCount,
+    pub level: i8,
+    pub current: Window,
+    pub recent: Window,
+    pub previous: Window,
+}
+
+pub enum DigitsRead {
+    Dialled(Digits),
+    // The refusal number.
+    BadDigits(u8),
+}
+
+// A reserved type or bit in a window's octets.
+fn window_reserved(a: u8, b: u8) -> bool
+    ensures { λ r. ⌜ r ≡ windowReserved a b ⌝ }
+{
+    if 1 < a / 32 {
+        return true;
+    }
+    0 < b / 32
+}
+
+// An edge, or the code of an on window, out of range.
+fn window_out(a: u8, b: u8) -> bool
+    ensures { λ r. ⌜ r ≡ windowOut a b ⌝ }
+{
+    if 19 < a % 32 {
+        return true;
+    }
+    if a / 32 == 1 {
+        return 15 < b % 32;
+    }
+    false
+}
+
+fn window_of(a: u8, b: u8) -> Window
+    ensures { λ r. ⌜ r ≡ windowOf a b ⌝ }
+{
+    if a / 32 == 1 {
+        return Window {
+            on: true,
+            edge: a % 32,
+            code: b % 32,
+        };
+    }
+    Window {
+        on: false,
+        edge: a % 32,
+        code: 0,
+    }
+}
+
+// What eight octets tell, the reserved bits and codes before the values.
+fn judge(s: u8, l: u8, a0: u8, b0: u8, a1: u8, b1: u8, a2: u8, b2: u8) -> DigitsRead
+    ensures { λ r. ⌜ r ≡ judged s l a0 b0 a1 b1 a2 b2 ⌝ }
+{
+    if 0 < l / 32 {
+        return DigitsRead::BadDigits(refusal::RESERVED_CODE);
+    }
+    if window_reserved(a0, b0) {
+        return DigitsRead::BadDigits(refusal::RESERVED_CODE);
+    }
+    if window_reserved(a1, b1) {
+        return DigitsRead::BadDigits(refusal::RESERVED_CODE);
+    }
+    if window_reserved(a2, b2) {
+        return DigitsRead::BadDigits(refusal::RESERVED_CODE);
+    }
+    if window_out(a0, b0) {
+        return DigitsRead::BadDigits(refusal::VALUE_OUT_OF_RANGE);
+    }
+    if window_out(a1, b1) {
+        return DigitsRead::BadDigits(refusal::VALUE_OUT_OF_RANGE);
+    }
+    if window_out(a2, b2) {
+        return DigitsRead::BadDigits(refusal::VALUE_OUT_OF_RANGE);
+    }
+    DigitsRead::Dialled(Digits {
+        sequence: DigitCount(s),
+        level: levels::level_of(l),
+        current: window_of(a0, b0),
+        recent: window_of(a1, b1),
+        previous: window_of(a2, b2),
+    })
+}
+
+// Reads a digits payload.
+pub fn read_digits(payload: &[u8]) -> DigitsRead
+    ensures { λ r. ⌜ r ≡ digitsRead (now (payload .entry)) ⌝ }
+{
+    if payload.len() == 8 {
+        return judge(
+            payload[0],
+            payload[1],
+            payload[2],
+            payload[3],
+            payload[4],
+            payload[5],
+            payload[6],
+            payload[7],
+        );
+    }
+    DigitsRead::BadDigits(refusal::LENGTH_WRONG)
+}
+
+// An edge, or the code of an on window, that its bits or its range do not take.
+fn window_wrong(w: Window) -> bool
+    ensures { λ r. ⌜ r ≡ windowWrong w ⌝ }
+{
+    if 19 < w.edge {
+        return true;
+    }
+    if w.on {
+        return 15 < w.code;
+    }
+    false
+}
+
+// Whether a level is below -31.
+fn level_low(level: i8) -> bool
+    ensures { λ r. ⌜ r ≡ levelLow (codeOf 31 level) ⌝ }
+{
+    match levels::code_of(level, 31) {
+        Coded::Code(_) => false,
+        Coded::Above => false,
+        Coded::Below => true,
+    }
+}
+
+// The octet of a level: above zero is coded 0.
+fn level_code(level: i8) -> u8
+    ensures { λ r. ⌜ r ≡ levelCode (codeOf 31 level) ⌝ }
+{
+    match levels::code_of(level, 31) {
+        Coded::Code(magnitude) => magnitude,
+        Coded::Above => 0,
+        Coded::Below => 0,
+    }
+}
+
+// The octets of a digits payload, or the refusal.
+pub fn fit_digits(digits: Digits) -> Fit
+    ensures { λ r. ⌜ r ≡ fitOf (digitsMade digits) ⌝ }
+{
+    if level_low(digits.level) {
+        return Fit::Unfit(refusal::VALUE_OUT_OF_RANGE);
+    }
+    let current = digits.current;
+    if window_wrong(current) {
+        return Fit::Unfit(refusal::VALUE_OUT_OF_RANGE);
+    }
+    let recent = digits.recent;
+    if window_wrong(recent) {
+        return Fit::Unfit(refusal::VALUE_OUT_OF_RANGE);
+    }
+    let previous = digits.previous;
+    if window_wrong(previous) {
+        return Fit::Unfit(refusal::VALUE_OUT_OF_RANGE);
+    }
+    Fit::Octets(8)
+}
+
+// The first octet of a window that fits, and the second.
+fn window_first(w: Window) -> u8
+    ensures { λ r. ⌜ r ≡ windowFirst w ⌝ }
+{
+    let edge = w.edge % 32;
+    if w.on { 32 + edge } else { edge }
+}
+
+fn window_second(w: Window) -> u8
+    ensures { λ r. ⌜ r ≡ windowSecond w ⌝ }
+{
+    if w.on { w.code } else { 0 }
+}
+
+// The octets of a digits payload that fits.
+fn digits_octets(digits: Digits) -> [u8; 8]
+    ensures { λ r. ⌜ r ≡ digitsHead digits ⌝ }
+{
+    let current = digits.current;
+    let recent = digits.recent;
+    let previous = digits.previous;
+    [
+        digits.sequence.0,
+        level_code(digits.level),
+        window_first(current),
+        window_second(current),
+        window_first(recent),
+        window_second(recent),
+        window_first(previous),
+        window_second(previous),
+    ]
+}
+
+// Writes a digits payload at a place of lent room.
+pub fn put_digits(room: &mut [u8], at: usize, digits: Digits) -> Put
+    ensures answer { λ r. ⌜ r ≡ putMade (now (room .entry)) at (digitsMade digits) ⌝ }
+    ensures holds { λ r. ⌜ now (room .exit) ≡ leftMade (now (room .entry)) at (digitsMade digits) ⌝ }
+{
+    match fit_digits(digits) {
+        Fit::Unfit(number) => Put::NotWritten(number),
+        Fit::Octets(_) => {
+            let head = digits_octets(digits);
+            octets::put_both(room, at, &head, b"")
+        }
+    }
+}

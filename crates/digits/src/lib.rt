@@ -1,0 +1,2 @@
+// Dialled digits (document 01, "Payload types": digits; FRF.11, Annex A).
+pub mod layout;
