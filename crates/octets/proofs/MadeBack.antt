@@ -33,12 +33,12 @@ never-made m number octets p q = let z : _≡_ {A = ℕ} 0 1 = cc in absurd (ome
 -- a write of what is made, and a write that is refused, in the terms of a layout's contract
 module _ (room : List ℕ) (at : ℕ) (m : Made) where
   pub written-made :
-      (octets left : List ℕ) (r : Put)
+      (octets : List ℕ) (answer : Put) (holds : List ℕ)
       → m ≡ made octets
-      → r ≡ put room at octets
-      → left ≡ leftBy r room at octets
-      → (r ≡ putMade room at m) × (left ≡ leftMade room at m)
-  written-made octets left r e p q = (p ∙ sym (ap (putMade room at) e), q ∙ ap (λ (x : Put). leftBy x room at octets) p ∙ sym (ap (leftMade room at) e))
+      → answer ≡ put room at octets
+      → holds ≡ leftBy answer room at octets
+      → (answer ≡ putMade room at m) × (holds ≡ leftMade room at m)
+  written-made octets answer holds e p h = rw e (p, h ∙ ap (λ (a : Put). leftBy a room at octets) p)
 
   pub not-written : (number : ℕ) → m ≡ unmade number → (NotWritten number ≡ putMade room at m) × (room ≡ leftMade room at m)
-  not-written number e = (sym (ap (putMade room at) e), sym (ap (leftMade room at) e))
+  not-written number e = rw e (refl, refl)

@@ -1,0 +1,3 @@
+pub mod DataCases
+pub mod Back
+pub mod Examples

@@ -1,0 +1,5 @@
+pub mod Tests
+pub mod FaxCases
+pub mod MadeReads
+pub mod ReadMakes
+pub mod Examples

@@ -1,0 +1,62 @@
+-- `fax::on_octet` meets its contract.
+use Prim.Native.Nat.{ℕ, _+_, _%_}
+use mathlib.Core.Path.{sym, ap, _∙_}
+use Rattle.fax.specs.Fax.{onOctetOf}
+use borrow.Author.Needs.{needs}
+use Rattle.fax.proofs.on_octet.Statement.{statement}
+use Rattle.fax.proofs.on_octet.Tie as tie
+
+enum-told : tie.Need-enum-told
+enum-told c = search needs
+
+enum-known-command : tie.Need-enum-known-command
+enum-known-command c = search needs
+
+bit-requires : tie.Need-bit-requires
+bit-requires c κs = search needs
+
+add-result : tie.Need-add-result
+add-result c = search needs
+
+enum-told-2 : tie.Need-enum-told-2
+enum-told-2 c = search needs
+
+enum-told-3 : tie.Need-enum-told-3
+enum-told-3 c = search needs
+
+enum-told-4 : tie.Need-enum-told-4
+enum-told-4 c = search needs
+
+returns : tie.Need-returns
+returns c = search needs
+
+returns-2 : tie.Need-returns-2
+returns-2 c =
+    let m = c .before .before .command .given .0 .1 .0 in
+    ap (λ (x : ℕ). x + m % 16) (c .bit .ensures .0) ∙ sym (ap onOctetOf (c .before .before .command .given .1))
+
+returns-3 : tie.Need-returns-3
+returns-3 c = search needs
+
+returns-4 : tie.Need-returns-4
+returns-4 c = search needs
+
+returns-5 : tie.Need-returns-5
+returns-5 c = search needs
+
+pub on-octet-spec : {M : Type 1} → statement M
+on-octet-spec =
+    tie.close
+    (tie.spec
+    enum-told
+    enum-known-command
+    bit-requires
+    add-result
+    enum-told-2
+    enum-told-3
+    enum-told-4
+    returns
+    returns-2
+    returns-3
+    returns-4
+    returns-5)

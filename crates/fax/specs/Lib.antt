@@ -1,0 +1,2 @@
+pub mod Fax
+pub mod Claims

@@ -1,0 +1,186 @@
+-- Signalling payloads, written and read: the claims of specs/Claims.antt, and what the code stores.
+use Prim.Native.Nat.{ℕ, zero, suc, _+_, _-_, _*_, _/_, _%_, _<_, _≤_}
+use mathlib.Core.Path.{_≡_, refl, sym, ap, ap₂, subst, _∙_}
+use mathlib.Core.List.{List, [], _∷_, _++_}
+use mathlib.Core.Bool.{Bool, true, false, cond}
+use mathlib.Core.Logic.{_⊎_, inl, inr, ⊎-elim}
+use native.Mathlib.Nat.{zero-add, not-suc-le-zero, le-of-suc-le-suc, add-zero}
+use native.Mathlib.Omega.{arith}
+use borrow.Author.Tests.{lt-ltb, le-ltb, eq-eqb, ne-eqb}
+use lib.Dec.{ltb, eqb}
+use lib.ListN.{length, getD, take, drop, length-drop}
+use lib.Seq.{drop-cons, ext-getD, take-all, getD-drop}
+use Rattle.octets.proofs.Order.{lt-or-le, eq-or-ne, clash, either}
+use Rattle.octets.proofs.MadeBack.{same-made, never-made}
+use Rattle.octets.specs.Octets.{Octets}
+use Rattle.octets.specs.Made.{Made, made, unmade}
+use Rattle.refusal.specs.Numbers.{sound, lengthWrong}
+use Rattle.signalling.specs.declared.layout.Signalling.{Signalling}
+use Rattle.signalling.specs.declared.layout.SignallingRead.{SignallingRead}
+use Rattle.signalling.specs.Layout.{allowed, halves, nothing, signallingRead, allAllowed, pairAt, pairs, firstOctet, firstHead, pairCut, pairsCut, signallingHead, signallingMade}
+use Rattle.signalling.specs.Claims.{SignallingReadsBack, SignallingMadeAgain}
+use Rattle.signalling.proofs.LayoutCases as cases
+use Rattle.signalling.proofs.Halves as halves-of
+
+pub record Fitting (s : Signalling) : Type 0 where
+  pub within : s .sequence .0 ≤ 127
+  pub fair : allAllowed 30 0 (s .samples) ≡ true
+
+pub fitting : (s : Signalling) (octets : List ℕ) → signallingMade s ≡ made octets → Fitting s
+fitting s octets e =
+    ⊎-elim (λ over. never-made _ _ octets (cases.beyond s over) e)
+    (λ within.
+    either (λ fair. record { within = within; fair = fair }) (λ wrong. never-made _ _ octets (cases.not-allowed s within wrong) e)
+    (allAllowed 30 0 (s .samples))
+    refl)
+    (lt-or-le 127 (s .sequence .0))
+
+pub made-octets : (s : Signalling) → Fitting s → signallingMade s ≡ made (firstOctet s ∷ pairs 15 0 (s .samples))
+made-octets s f = cases.all-right s (f .within) (f .fair)
+
+pub length-pairs : (n k : ℕ) (samples : List ℕ) → length (pairs n k samples) ≡ n
+unfolding pairs
+length-pairs zero k samples = refl
+length-pairs (suc n) k samples = ap suc (length-pairs n (suc k) samples)
+
+-- each sample that was looked at is allowed
+first-allowed : (n i : ℕ) (samples : List ℕ) → allAllowed (suc n) i samples ≡ true → getD samples i 0 < 16
+unfolding allAllowed
+first-allowed n i samples e =
+    ⊎-elim (λ h. h) (λ over. clash (allAllowed (suc n) i samples) e (simp (le-ltb (getD samples i 0) 16 over)))
+    (lt-or-le (getD samples i 0) 16)
+
+others-allowed : (n i : ℕ) (samples : List ℕ) → allAllowed (suc n) i samples ≡ true → allAllowed n (suc i) samples ≡ true
+unfolding allAllowed
+others-allowed n i samples e = simp (lt-ltb (getD samples i 0) 16 (first-allowed n i samples e)) at e
+
+each-allowed : (n i : ℕ) (samples : List ℕ) → allAllowed n i samples ≡ true → (j : ℕ) → j < n → getD samples (i + j) 0 < 16
+each-allowed zero i samples e j h = absurd (not-suc-le-zero h)
+each-allowed (suc n) i samples e zero h = rw (add-zero i) (first-allowed n i samples e)
+each-allowed (suc n) i samples e (suc j) h =
+    let same : i + suc j ≡ suc i + j = omega arith in
+    rw same (each-allowed n (suc i) samples (others-allowed n i samples e) j (le-of-suc-le-suc h))
+
+pub all-small : (s : Signalling) → Fitting s → (j : ℕ) → j < 30 → getD (s .samples) j 0 < 16
+all-small s f j h = rw (zero-add j) at (each-allowed 30 0 (s .samples) (f .fair) j h)
+
+-- allowed samples fill their halves and no more
+module _ (samples : List ℕ) (small : (j : ℕ) → j < 30 → getD samples j 0 < 16) where
+  cut-same : (n k : ℕ) → k + n ≤ 15 → pairsCut n k samples ≡ pairs n k samples
+  unfolding pairsCut pairs
+  cut-same zero k h = refl
+  cut-same (suc n) k h =
+      let low : getD samples (k + k) 0 < 16 = small (k + k) (omega arith) in
+      let high : getD samples (k + k + 1) 0 < 16 = small (k + k + 1) (omega arith) in
+      let same : pairCut samples k ≡ pairAt samples k = omega arith in
+      ap₂ (λ (x : ℕ) (l : List ℕ). x ∷ l) same (cut-same n (suc k) (omega arith))
+
+  -- two samples of each pair come back
+  pairs-halves : (n k : ℕ) → k + n ≤ 15 → length samples ≡ 30 → halves (pairs n k samples) ≡ take (n + n) (drop (k + k) samples)
+  unfolding pairs halves
+  pairs-halves zero k h whole = refl
+  pairs-halves (suc n) k h whole =
+      let low : getD samples (k + k) 0 < 16 = small (k + k) (omega arith) in
+      let high : getD samples (k + k + 1) 0 < 16 = small (k + k + 1) (omega arith) in
+      let first : pairAt samples k % 16 ≡ getD samples (k + k) 0 = omega arith in
+      let second : pairAt samples k / 16 ≡ getD samples (k + k + 1) 0 = omega arith in
+      let next : k + k + 1 ≡ suc (k + k) = omega arith in
+      let two : suc n + suc n ≡ suc (suc (n + n)) = omega arith in
+      let on : suc k + suc k ≡ suc (suc (k + k)) = omega arith in
+      let rest : halves (pairs n (suc k) samples) ≡ take (n + n) (drop (suc k + suc k) samples) = pairs-halves n (suc k) (omega arith) whole in
+      ap₂ (λ (x : ℕ) (l : List ℕ). x ∷ l) first
+      (ap₂ (λ (x : ℕ) (l : List ℕ). x ∷ l) (second ∙ ap (λ (j : ℕ). getD samples j 0) next) (rest ∙ ap (λ (j : ℕ). take (n + n) (drop j samples)) on))
+      ∙ sym
+      (ap (λ (j : ℕ). take j (drop (k + k) samples)) two
+      ∙ ap (take (suc (suc (n + n)))) (drop-cons samples (k + k) 0 (omega arith))
+      ∙ ap (λ (l : List ℕ). getD samples (k + k) 0 ∷ take (suc (n + n)) l) (drop-cons samples (suc (k + k)) 0 (omega arith)))
+
+first-same : (alarm : Bool) (sequence : ℕ) → sequence ≤ 127 → cond alarm (128 + sequence % 128) (sequence % 128) ≡ cond alarm 128 0 + sequence
+first-same true sequence h = omega arith
+first-same false sequence h = omega arith
+
+pub head-is : (s : Signalling) → Fitting s → signallingHead s ≡ firstOctet s ∷ pairs 15 0 (s .samples)
+head-is s f =
+    ap₂ (λ (x : ℕ) (l : List ℕ). x ∷ l) (first-same (s .alarm) (s .sequence .0) (f .within)) (cut-same (s .samples) (all-small s f) 15 0 (omega arith))
+
+alarm-back : (alarm : Bool) (sequence : ℕ) → sequence ≤ 127 → (eqb ((cond alarm 128 0 + sequence) / 128) 1 ≡ alarm) × ((cond alarm 128 0 + sequence) % 128 ≡ sequence)
+alarm-back true sequence h = let one : (128 + sequence) / 128 ≡ 1 = omega arith in (rw one, omega arith)
+alarm-back false sequence h = let none : (0 + sequence) / 128 ≡ 0 = omega arith in (rw none, omega arith)
+
+pub signalling-reads-back : SignallingReadsBack
+signalling-reads-back s octets whole e =
+    let f = fitting s octets e in
+    let first = alarm-back (s .alarm) (s .sequence .0) (f .within) in
+    let samples : halves (pairs 15 0 (s .samples)) ≡ s .samples =
+    pairs-halves (s .samples) (all-small s f) 15 0 (omega arith) whole ∙ take-all 30 (s .samples) (omega arith)
+    in
+    rw (same-made _ octets (firstOctet s ∷ pairs 15 0 (s .samples)) e (made-octets s f))
+    (cases.right (firstOctet s ∷ pairs 15 0 (s .samples)) (ap suc (length-pairs 15 0 (s .samples))) ∙ rw (first .0, first .1, samples))
+
+-- halves of octets are allowed
+half-small : (l : List ℕ) → Octets l → (j : ℕ) → getD (halves l) j 0 < 16
+unfolding halves
+half-small [] o j = omega arith
+half-small (x ∷ l) o zero = omega arith
+half-small (x ∷ l) o (suc zero) = let h : x < 256 = o 0 in omega arith
+half-small (x ∷ l) o (suc (suc j)) = half-small l (λ i. o (suc i)) j
+
+small-allowed : (n i : ℕ) (samples : List ℕ) → ((j : ℕ) → getD samples j 0 < 16) → allAllowed n i samples ≡ true
+unfolding allAllowed
+small-allowed zero i samples h = refl
+small-allowed (suc n) i samples h = simp (lt-ltb (getD samples i 0) 16 (h i)) (small-allowed n (suc i) samples h)
+
+pair-at : (n k : ℕ) (samples : List ℕ) (j : ℕ) → j < n → getD (pairs n k samples) j 0 ≡ pairAt samples (k + j)
+unfolding pairs
+pair-at zero k samples j h = absurd (not-suc-le-zero h)
+pair-at (suc n) k samples zero h = rw (add-zero k)
+pair-at (suc n) k samples (suc j) h =
+    let same : suc k + j ≡ k + suc j = omega arith in
+    pair-at n (suc k) samples j (le-of-suc-le-suc h) ∙ ap (pairAt samples) same
+
+halves-pairs : (l : List ℕ) → length l ≡ 15 → pairs 15 0 (halves l) ≡ l
+halves-pairs l whole =
+    let many = length-pairs 15 0 (halves l) in
+    ext-getD 0 (pairs 15 0 (halves l)) l (many ∙ sym whole)
+    (λ i h.
+    let less : i < length l = omega arith in
+    let next : i + i + 1 ≡ suc (i + i) = omega arith in
+    pair-at 15 0 (halves l) i (omega arith)
+    ∙ ap (pairAt (halves l)) (zero-add i)
+    ∙ ap₂ (λ (x y : ℕ). x + y * 16) (halves-of.low-half l i less) (ap (λ (j : ℕ). getD (halves l) j 0) next ∙ halves-of.high-half l i less)
+    ∙ omega arith)
+
+never : {A : Type 0} (r : SignallingRead) (x y : Signalling) → r ≡ record { number = lengthWrong; signalling = x } → r ≡ record { number = sound; signalling = y } → A
+never r x y p q = let z : _≡_ {A = ℕ} 13 0 = ap (λ (s : SignallingRead). s .number) (sym p ∙ q) in absurd (omega arith)
+
+again : (octets : List ℕ) → Octets octets → length octets ≡ 16
+    → (length (halves (drop 1 octets)) ≡ 30)
+    × (signallingMade (record { alarm = eqb (getD octets 0 0 / 128) 1; sequence = record { 0 = getD octets 0 0 % 128 }; samples = halves (drop 1 octets) }) ≡ made octets)
+again [] o whole = absurd (omega arith)
+again (x ∷ l) o whole =
+    let rest : length l ≡ 15 = omega arith in
+    let octet : x < 256 = o 0 in
+    let s : Signalling = record { alarm = eqb (x / 128) 1; sequence = record { 0 = x % 128 }; samples = halves l } in
+    let f : Fitting s = record { within = omega arith; fair = small-allowed 30 0 (halves l) (half-small l (λ i. o (suc i))) } in (
+      halves-of.length-halves l ∙ rw rest,
+      made-octets s f ∙ ap₂ (λ (a : ℕ) (b : List ℕ). made (a ∷ b)) (first-again x octet) (halves-pairs l rest),
+    )
+  where
+    first-again : (x : ℕ) → x < 256 → cond (eqb (x / 128) 1) 128 0 + x % 128 ≡ x
+    first-again x h =
+        ⊎-elim (λ (one : x / 128 ≡ 1). simp (eq-eqb (x / 128) 1 one) (omega arith))
+        (λ (none : x / 128 ≡ 1 → ⊥). low x h none)
+        (eq-or-ne (x / 128) 1)
+      where
+        low : (x : ℕ) → x < 256 → (x / 128 ≡ 1 → ⊥) → cond (eqb (x / 128) 1) 128 0 + x % 128 ≡ x
+        low x h none =
+            simp (ne-eqb (x / 128) 1 none) (⊎-elim (λ (z : x / 128 ≡ 0). omega arith) (λ nz. absurd (none (omega arith))) (eq-or-ne (x / 128) 0))
+
+pub signalling-made-again : SignallingMadeAgain
+signalling-made-again s octets o e =
+    ⊎-elim
+    (λ whole.
+    let is = ap (λ (r : SignallingRead). r .signalling) (sym (cases.right octets whole) ∙ e) in
+    subst (λ (x : Signalling). (length (x .samples) ≡ 30) × (signallingMade x ≡ made octets)) is (again octets o whole))
+    (λ wrong. never _ nothing s (cases.wrong octets wrong) e)
+    (eq-or-ne (length octets) 16)

@@ -1,0 +1,4 @@
+pub mod Halves
+pub mod Samples
+pub mod LayoutCases
+pub mod LayoutBack

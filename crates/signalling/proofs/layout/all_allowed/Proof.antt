@@ -1,0 +1,55 @@
+-- `signalling::layout::all_allowed` meets its contract.
+use Prim.Native.Nat.{_-_, _≤_}
+use mathlib.Core.Path.{_≡_, refl}
+use native.Mathlib.Omega.{arith}
+use Rattle.signalling.specs.Layout.{allAllowed}
+use Rattle.signalling.proofs.Samples as samples-of
+use Rattle.signalling.proofs.layout.all_allowed.Statement.{statement}
+use Rattle.signalling.proofs.layout.all_allowed.Tie as tie
+
+abbrev Inv-loop : tie.InvT-loop
+Inv-loop samples i₀ i = (i ≤ 30) × (allAllowed 30 0 samples ≡ allAllowed (30 - i) i samples)
+
+abbrev μ-loop : tie.MeasureT-loop
+μ-loop samples i₀ i = 30 - i
+
+loop-holds : tie.Need-loop-holds Inv-loop μ-loop
+loop-holds c = (omega arith, refl)
+
+array-read-if1 : tie.Need-array-read-if1 Inv-loop μ-loop
+array-read-if1 c = omega arith
+
+returns : tie.Need-returns Inv-loop μ-loop
+returns c =
+    let l = c .before .before .loop in
+    samples-of.stops (c .before .before .before .args .t1) _ (l .i) (c .before .loop-test .taken) (l .inv .1) (c .if1 .taken)
+
+add-i : tie.Need-add-i Inv-loop μ-loop
+add-i c = omega arith
+
+loop-less : tie.Need-loop-less Inv-loop μ-loop
+loop-less c = omega arith
+
+loop-again : tie.Need-loop-again Inv-loop μ-loop
+loop-again c =
+    let l = c .before .before .loop in
+    (omega arith, samples-of.goes-on (c .before .before .before .args .t1) _ (l .i) (c .before .loop-test .taken) (l .inv .1) (c .if1 .left))
+
+returns-2 : tie.Need-returns-2 Inv-loop μ-loop
+returns-2 c =
+    let l = c .before .loop in
+    samples-of.all-seen (c .before .before .args .t1) _ (l .i) (c .loop-test .left) (l .inv .1)
+
+pub all-allowed-spec : {M : Type 1} → statement M
+all-allowed-spec =
+    tie.close
+    (tie.spec
+    Inv-loop
+    μ-loop
+    loop-holds
+    array-read-if1
+    returns
+    add-i
+    loop-less
+    loop-again
+    returns-2)

@@ -1,0 +1,73 @@
+-- Signalling payloads (document 01, "Payload types": signalling; FRF.11, Figure B-1). Sixteen octets: "AIS bit and 7-bit
+-- sequence, then 30 samples, oldest first, two to an octet, the earlier in the low half, bits D C B A from high to low."
+use Prim.Native.Nat.{ℕ, zero, suc, _+_, _*_, _/_, _%_}
+use mathlib.Core.List.{List, [], _∷_}
+use mathlib.Core.Bool.{Bool, true, false, cond}
+use lib.Dec.{ltb, eqb}
+use lib.ListN.{length, getD, drop, replicate}
+use Rattle.refusal.specs.Numbers.{sound, lengthWrong, valueOutOfRange}
+use Rattle.octets.specs.Made.{Made, made, unmade}
+use Rattle.counts.specs.declared.SignallingCount.{SignallingCount}
+use Rattle.signalling.specs.declared.layout.Signalling.{Signalling}
+use Rattle.signalling.specs.declared.layout.SignallingRead.{SignallingRead}
+
+-- A sample is allowed: four bits.
+abbrev pub allowed : ℕ → Bool
+allowed sample = ltb sample 16
+
+-- the samples of some octets, the earlier in the low half
+unfoldable pub halves : List ℕ → List ℕ
+halves [] = []
+halves (o ∷ os) = (o % 16) ∷ (o / 16) ∷ halves os
+
+-- what stands beside a refusal
+abbrev pub nothing : Signalling
+nothing = record { alarm = false; sequence = record { 0 = 0 }; samples = replicate 30 0 }
+
+unfoldable pub signallingRead : List ℕ → SignallingRead
+signallingRead p =
+    cond (eqb (length p) 16)
+    (record {
+      number = sound;
+      signalling =
+          record {
+            alarm = eqb (getD p 0 0 / 128) 1;
+            sequence = record { 0 = getD p 0 0 % 128 };
+            samples = halves (drop 1 p);
+          };
+    })
+    (record { number = lengthWrong; signalling = nothing })
+
+-- Writing: every sample of n, from place i on, is allowed; and n octets of two samples each, from the pair i on.
+unfoldable pub allAllowed : ℕ → ℕ → List ℕ → Bool
+allAllowed zero i samples = true
+allAllowed (suc n) i samples = cond (allowed (getD samples i 0)) (allAllowed n (suc i) samples) false
+
+abbrev pub pairAt : List ℕ → ℕ → ℕ
+pairAt samples i = getD samples (i + i) 0 + getD samples (i + i + 1) 0 * 16
+
+unfoldable pub pairs : ℕ → ℕ → List ℕ → List ℕ
+pairs zero i samples = []
+pairs (suc n) i samples = pairAt samples i ∷ pairs n (suc i) samples
+
+abbrev pub firstOctet : Signalling → ℕ
+firstOctet s = cond (s .alarm) 128 0 + s .sequence .0
+
+-- the same octets, for every content that a struct can hold
+abbrev pub firstHead : Signalling → ℕ
+firstHead s = cond (s .alarm) (128 + s .sequence .0 % 128) (s .sequence .0 % 128)
+
+abbrev pub pairCut : List ℕ → ℕ → ℕ
+pairCut samples i = getD samples (i + i) 0 % 16 + getD samples (i + i + 1) 0 % 16 * 16
+
+unfoldable pub pairsCut : ℕ → ℕ → List ℕ → List ℕ
+pairsCut zero i samples = []
+pairsCut (suc n) i samples = pairCut samples i ∷ pairsCut n (suc i) samples
+
+abbrev pub signallingHead : Signalling → List ℕ
+signallingHead s = firstHead s ∷ pairsCut 15 0 (s .samples)
+
+unfoldable pub signallingMade : Signalling → Made
+signallingMade s =
+    cond (ltb 127 (s .sequence .0)) (unmade valueOutOfRange)
+    (cond (allAllowed 30 0 (s .samples)) (made (firstOctet s ∷ pairs 15 0 (s .samples))) (unmade valueOutOfRange))

@@ -1,0 +1,2 @@
+// Seizure bits (document 01, "Payload types": signalling; FRF.11, Annex B).
+pub mod layout;
