@@ -1,6 +1,7 @@
-// What a sub-channel carries (document 01, "Provisioning text" and "Payload types").
+// A provisioned syntax with its m and seq, and which of them are listed (document 01, "Provisioning text").
+ghost use mathlib.Core.Path.{_≡_};
+ghost use Rattle.record.specs.Record.{mostM, seqListed, place, syntaxAt};
 
-// The provisioned syntaxes, by their words: acelp, pcm, g727, g728, g7231, data, fax.
 pub enum Syntax {
     Acelp,
     Pcm,
@@ -11,15 +12,78 @@ pub enum Syntax {
     Fax,
 }
 
-// The record of a sub-channel.
 pub struct Record {
     pub syntax: Syntax,
     pub m: u8,
     pub seq: bool,
 }
 
-// What the table has for a sub-channel.
-pub enum Found {
-    Provisioned(Record),
-    Unprovisioned,
+// The largest m of a syntax; the smallest is 1.
+pub fn most_m(syntax: Syntax) -> u8
+    ensures { λ r. ⌜ r ≡ mostM syntax ⌝ }
+{
+    match syntax {
+        Syntax::Acelp => 6,
+        Syntax::Pcm => 12,
+        Syntax::G727 => 12,
+        Syntax::G728 => 12,
+        Syntax::G7231 => 1,
+        Syntax::Data => 1,
+        Syntax::Fax => 1,
+    }
+}
+
+// Whether a syntax may have this seq.
+pub fn seq_listed(syntax: Syntax, seq: bool) -> bool
+    ensures { λ r. ⌜ r ≡ seqListed syntax seq ⌝ }
+{
+    match syntax {
+        Syntax::Acelp => true,
+        Syntax::Pcm => seq,
+        Syntax::G727 => seq,
+        Syntax::G728 => true,
+        Syntax::G7231 => true,
+        Syntax::Data => !seq,
+        Syntax::Fax => !seq,
+    }
+}
+
+// The place of a syntax in document 01's list, from 1.
+pub fn place_of(syntax: Syntax) -> u16
+    ensures { λ r. ⌜ r ≡ place syntax ⌝ }
+{
+    match syntax {
+        Syntax::Acelp => 1,
+        Syntax::Pcm => 2,
+        Syntax::G727 => 3,
+        Syntax::G728 => 4,
+        Syntax::G7231 => 5,
+        Syntax::Data => 6,
+        Syntax::Fax => 7,
+    }
+}
+
+// The syntax at a place from 1 to 7.
+pub fn syntax_at(at: u16) -> Syntax
+    ensures { λ r. ⌜ r ≡ syntaxAt at ⌝ }
+{
+    if at == 1 {
+        return Syntax::Acelp;
+    }
+    if at == 2 {
+        return Syntax::Pcm;
+    }
+    if at == 3 {
+        return Syntax::G727;
+    }
+    if at == 4 {
+        return Syntax::G728;
+    }
+    if at == 5 {
+        return Syntax::G7231;
+    }
+    if at == 6 {
+        return Syntax::Data;
+    }
+    Syntax::Fax
 }

@@ -1,0 +1,8 @@
+pub mod Packing
+pub mod Values
+pub mod Numbers
+pub mod Lines
+pub mod Steps
+pub mod Turns
+pub mod TextBack
+pub mod Examples

@@ -1,0 +1,5 @@
+pub mod Record
+pub mod Value
+pub mod Back
+pub mod Line
+pub mod Text

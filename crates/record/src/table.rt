@@ -1,0 +1,60 @@
+// The provisioning table: a number for each CID, which packs the record of a provisioned one.
+use crate::syntax::Record;
+ghost use mathlib.Core.Path.{_≡_};
+ghost use mathlib.Core.Bool.{cond};
+ghost use lib.ListN.{getD};
+ghost use Rattle.record.specs.Record.{packed, meaning};
+
+// What is provisioned on a CID.
+pub enum Found {
+    Provisioned(Record),
+    Unprovisioned,
+}
+
+fn bit(set: bool) -> u16
+    ensures { λ r. ⌜ r ≡ cond set 1 0 ⌝ }
+{
+    if set { 1 } else { 0 }
+}
+
+// A record as a number of the table: the syntax from bit 6 on, m in bits 5 to 2, seq in bit 1.
+pub fn pack(given: Record) -> u16
+    ensures { λ r. ⌜ r ≡ packed given ⌝ }
+{
+    let syntax = given.syntax;
+    let m = given.m as u16;
+    crate::syntax::place_of(syntax) * 32 + m * 2 + bit(given.seq)
+}
+
+// What a number of the table means: every number has a meaning.
+pub fn meaning(number: u16) -> Found
+    ensures { λ r. ⌜ r ≡ meaning number ⌝ }
+{
+    let at = number / 32;
+    if at == 0 {
+        return Found::Unprovisioned;
+    }
+    if 7 < at {
+        return Found::Unprovisioned;
+    }
+    let syntax = crate::syntax::syntax_at(at);
+    let m = (number / 2 % 16) as u8;
+    let seq = number % 2 == 1;
+    if m == 0 {
+        return Found::Unprovisioned;
+    }
+    if crate::syntax::most_m(syntax) < m {
+        return Found::Unprovisioned;
+    }
+    if crate::syntax::seq_listed(syntax, seq) {
+        return Found::Provisioned(Record { syntax, m, seq });
+    }
+    Found::Unprovisioned
+}
+
+// What is provisioned on a CID.
+pub fn record_of(table: &[u16; 256], cid: u8) -> Found
+    ensures { λ r. ⌜ r ≡ meaning (getD (now (table .entry)) cid 0) ⌝ }
+{
+    meaning(table[cid as usize])
+}

@@ -1,0 +1,175 @@
+// The values of the lines of a provisioning text: a number or a syntax word, each ended by LF (document 01, "Provisioning text").
+use crate::syntax::Syntax;
+ghost use mathlib.Core.Path.{_≡_};
+ghost use Rattle.record.specs.Value.{starts, hasLf, digitOf, numberOf, numberLine, wordOf};
+
+const LF: u8 = 10;
+
+// A number, and how many octets it takes with what stands before it and the LF.
+pub enum Number {
+    Whole { value: u16, size: usize },
+    Malformed,
+}
+
+// A syntax, and the octets of its word with the LF.
+pub enum Word {
+    Known { syntax: Syntax, size: usize },
+    // An LF comes, after something that is no syntax word.
+    Unknown,
+    // No LF comes.
+    Endless,
+}
+
+// Whether a text starts with a word.
+pub fn starts(s: &[u8], with: &[u8]) -> bool
+    ensures { λ r. ⌜ r ≡ starts (now (s .entry)) (now (with .entry)) ⌝ }
+{
+    let mut i = 0;
+    while i < with.len() {
+        if s.len() <= i {
+            return false;
+        }
+        if s[i] != with[i] {
+            return false;
+        }
+        i += 1;
+    }
+    true
+}
+
+// Whether an LF comes.
+fn has_lf(s: &[u8]) -> bool
+    ensures { λ r. ⌜ r ≡ hasLf (now (s .entry)) ⌝ }
+{
+    let mut i = 0;
+    while i < s.len() {
+        if s[i] == LF {
+            return true;
+        }
+        i += 1;
+    }
+    false
+}
+
+// The value of a digit, and 10 of any other octet.
+fn digit_of(octet: u8) -> u16
+    ensures { λ r. ⌜ r ≡ digitOf octet ⌝ }
+{
+    if octet < 48 {
+        return 10;
+    }
+    if 57 < octet {
+        return 10;
+    }
+    (octet - 48) as u16
+}
+
+// The number that a text starts with: one to three digits, no leading zero, then LF.
+fn number_of(s: &[u8]) -> Number
+    ensures { λ r. ⌜ r ≡ numberOf (now (s .entry)) ⌝ }
+{
+    let a = digit_of(octets::octet(s, 0));
+    if 9 < a {
+        return Number::Malformed;
+    }
+    let second = octets::octet(s, 1);
+    if second == LF {
+        return Number::Whole { value: a, size: 2 };
+    }
+    if a == 0 {
+        return Number::Malformed;
+    }
+    let b = digit_of(second);
+    if 9 < b {
+        return Number::Malformed;
+    }
+    let ab = a * 10 + b;
+    let third = octets::octet(s, 2);
+    if third == LF {
+        return Number::Whole { value: ab, size: 3 };
+    }
+    let c = digit_of(third);
+    if 9 < c {
+        return Number::Malformed;
+    }
+    if octets::octet(s, 3) == LF {
+        return Number::Whole {
+            value: ab * 10 + c,
+            size: 4,
+        };
+    }
+    Number::Malformed
+}
+
+// A key, then a number.
+pub fn number_line(s: &[u8], key: &[u8]) -> Number
+    ensures { λ r. ⌜ r ≡ numberLine (now (key .entry)) (now (s .entry)) ⌝ }
+{
+    if starts(s, key) {
+        let n = key.len();
+        match number_of(&s[n..]) {
+            Number::Whole { value, size } => {
+                return Number::Whole {
+                    value,
+                    size: n + size,
+                };
+            }
+            Number::Malformed => {
+                return Number::Malformed;
+            }
+        }
+    }
+    Number::Malformed
+}
+
+// The syntax word that a text starts with.
+pub fn word_of(s: &[u8]) -> Word
+    ensures { λ r. ⌜ r ≡ wordOf (now (s .entry)) ⌝ }
+{
+    if starts(s, b"acelp\n") {
+        return Word::Known {
+            syntax: Syntax::Acelp,
+            size: 6,
+        };
+    }
+    if starts(s, b"pcm\n") {
+        return Word::Known {
+            syntax: Syntax::Pcm,
+            size: 4,
+        };
+    }
+    if starts(s, b"g727\n") {
+        return Word::Known {
+            syntax: Syntax::G727,
+            size: 5,
+        };
+    }
+    if starts(s, b"g728\n") {
+        return Word::Known {
+            syntax: Syntax::G728,
+            size: 5,
+        };
+    }
+    if starts(s, b"g7231\n") {
+        return Word::Known {
+            syntax: Syntax::G7231,
+            size: 6,
+        };
+    }
+    if starts(s, b"data\n") {
+        return Word::Known {
+            syntax: Syntax::Data,
+            size: 5,
+        };
+    }
+    if starts(s, b"fax\n") {
+        return Word::Known {
+            syntax: Syntax::Fax,
+            size: 4,
+        };
+    }
+    if has_lf(s) {
+        return Word::Unknown;
+    }
+    Word::Endless
+}
