@@ -1,1 +1,2 @@
 pub mod LayoutCases
+pub mod CheckCases
