@@ -3,10 +3,18 @@
 use Prim.Native.Nat.{ℕ}
 use mathlib.Core.Path.{_≡_}
 use mathlib.Core.List.{List, [], _∷_, _++_, map}
-use mathlib.Core.Bool.{true}
+use mathlib.Core.Bool.{true, false}
+use lib.IntN.{ℤ, pos, negsuc}
+use Rattle.octets.specs.Made.{Made, made, unmade}
 use Rattle.frame.specs.Opening.{opening}
 use Rattle.frame.specs.Joining.{Content, shortestHeader, joined}
 use Rattle.framing.specs.Claims.{list}
+use Rattle.digits.specs.declared.layout.Digits.{Digits}
+use Rattle.digits.specs.Layout.{digitsMade}
+use Rattle.data.specs.Data.{dataMade}
+use Rattle.fax.specs.declared.Stamp.the-variants.{Stamped}
+use Rattle.fax.specs.declared.Command.the-variants.{On}
+use Rattle.fax.specs.Fax.{faxMade}
 
 pub record Example : Type 0 where
   pub bench : ℕ
@@ -22,6 +30,22 @@ abbrev pub flat : List Content → List ℕ
 flat [] = []
 flat (c ∷ cs) = c .cid ∷ c .ptype ∷ c .payload ++ flat cs
 
+-- what writing gives: the refusal number, 0 for none, and the octets
+abbrev pub written : Made → List ℕ
+written (made octets) = 0 ∷ octets
+written (unmade number) = number ∷ []
+
+-- three off windows at a level
+abbrev pub quiet : ℤ → Digits
+quiet level =
+    record {
+      sequence = record { 0 = 0 };
+      level = level;
+      current = record { on = false; edge = 0; code = 0 };
+      recent = record { on = false; edge = 0; code = 0 };
+      previous = record { on = false; edge = 0; code = 0 };
+    }
+
 unfoldable pub examples : List Example
 examples =
     record { bench = 1; given = checked []; due = 1 ∷ [] }
@@ -35,6 +59,15 @@ examples =
     ∷ record { bench = 7; given = flat (list (0x85 ∷ 0x00 ∷ 0xaa ∷ [])); due = 5 ∷ 0 ∷ 0xaa ∷ [] }
     ∷ record { bench = 7; given = joined (list (0x85 ∷ 0x00 ∷ 0xaa ∷ [])); due = 0x05 ∷ 0xaa ∷ [] }
     ∷ record { bench = 8; given = shortestHeader 200 0 true 0; due = 0x88 ∷ 0xc0 ∷ [] }
+    ∷ record { bench = 9; given = written (digitsMade (quiet (pos 3))); due = 0 ∷ 0 ∷ 0 ∷ 0 ∷ 0 ∷ 0 ∷ 0 ∷ 0 ∷ 0 ∷ [] }
+    ∷ record { bench = 9; given = written (digitsMade (quiet (negsuc 30))); due = 0 ∷ 0 ∷ 31 ∷ 0 ∷ 0 ∷ 0 ∷ 0 ∷ 0 ∷ 0 ∷ [] }
+    ∷ record { bench = 9; given = written (digitsMade (quiet (negsuc 31))); due = 15 ∷ [] }
+    ∷ record { bench = 11; given = written (dataMade true true 300 (0xaa ∷ [])); due = 0 ∷ 0xc1 ∷ 0x2c ∷ 0xaa ∷ [] }
+    ∷ record {
+      bench = 12;
+      given = written (faxMade 0 (Stamped 1000) (On true 1 0) []);
+      due = 0 ∷ 0x81 ∷ 0xe8 ∷ 0x03 ∷ 0x81 ∷ 0x00 ∷ 0x00 ∷ [];
+    }
     ∷ []
 
 -- Each gives what is due.
