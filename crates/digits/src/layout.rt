@@ -15,7 +15,7 @@ pub struct Window {
     pub code: u8,
 }
 
-// A digits payload: the level, 0 to -31 dBm0, and three periods.
+// A digits payload: the level in dBm0, which is 0 to -31 when read, and three periods.
 pub struct Digits {
     pub sequence: DigitCount,
     pub level: i8,

@@ -7,12 +7,14 @@ use native.Mathlib.Nat.{le-trans}
 use native.Mathlib.Omega.{arith}
 use borrow.Author.Tests.{lt-ltb, le-ltb, eq-eqb, ne-eqb}
 use lib.Dec.{ltb, eqb}
+use lib.ListN.{getD}
+use mathlib.Core.List.{List}
 use Rattle.record.specs.declared.syntax.Syntax.{Syntax}
 use Rattle.record.specs.declared.syntax.Syntax.the-variants.{Acelp, Pcm, G727, G728, G7231, Data, Fax}
 use Rattle.record.specs.declared.syntax.Record.{Record}
 use Rattle.record.specs.declared.table.Found.the-variants.{Provisioned, Unprovisioned}
 use Rattle.octets.proofs.Order.{lt-or-le, eq-or-ne}
-use Rattle.record.specs.Record.{mostM, seqListed, legal, place, syntaxAt, packed, unpacked, meaning}
+use Rattle.record.specs.Record.{mostM, seqListed, legal, place, syntaxAt, packed, unpacked, meaning, foundAt}
 use Rattle.record.proofs.Values.{true-not-false}
 use Rattle.record.proofs.Lines.{most-small}
 
@@ -178,3 +180,13 @@ forth n r e =
     (λ most. forth-if n r (legal (unpacked n)) some most refl e)
     (lt-or-le 7 (n / 32)))
     (eq-or-ne (n / 32) 0)
+
+-- what is provisioned on a CID
+module _ (table : List ℕ) (cid : ℕ) where
+  pub no-cid : cid < 4 → foundAt table cid ≡ Unprovisioned
+  unfolding foundAt
+  no-cid h = simp (lt-ltb cid 4 h)
+
+  pub on-cid : 4 ≤ cid → foundAt table cid ≡ meaning (getD table cid 0)
+  unfolding foundAt
+  on-cid h = simp (le-ltb cid 4 h)

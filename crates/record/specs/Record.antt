@@ -3,6 +3,7 @@ use Prim.Native.Nat.{ℕ, _+_, _*_, _/_, _%_}
 use mathlib.Core.List.{List, [], _∷_}
 use mathlib.Core.Bool.{Bool, true, false, cond, not}
 use lib.Dec.{ltb, eqb}
+use lib.ListN.{getD}
 use Rattle.record.specs.declared.syntax.Syntax.{Syntax}
 use Rattle.record.specs.declared.syntax.Syntax.the-variants.{Acelp, Pcm, G727, G728, G7231, Data, Fax}
 use Rattle.record.specs.declared.syntax.Record.{Record}
@@ -64,7 +65,7 @@ syntaxAt at =
     (cond (eqb at 5) G7231
     (cond (eqb at 6) Data Fax)))))
 
--- A record as a number of the table.
+-- A legal record as a number of the table.
 unfoldable pub packed : Record → ℕ
 packed r = place (r .syntax) * 32 + r .m * 2 + cond (r .seq) 1 0
 
@@ -77,3 +78,7 @@ unfoldable pub meaning : ℕ → Found
 meaning n =
     cond (eqb (n / 32) 0) Unprovisioned
     (cond (ltb 7 (n / 32)) Unprovisioned (cond (legal (unpacked n)) (Provisioned (unpacked n)) Unprovisioned))
+
+-- What is provisioned on a CID: CIDs are 4 to 255.
+unfoldable pub foundAt : List ℕ → ℕ → Found
+foundAt table cid = cond (ltb cid 4) Unprovisioned (meaning (getD table cid 0))

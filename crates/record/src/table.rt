@@ -2,8 +2,7 @@
 use crate::syntax::Record;
 ghost use mathlib.Core.Path.{_≡_};
 ghost use mathlib.Core.Bool.{cond};
-ghost use lib.ListN.{getD};
-ghost use Rattle.record.specs.Record.{packed, meaning};
+ghost use Rattle.record.specs.Record.{packed, meaning, foundAt};
 
 // What is provisioned on a CID.
 pub enum Found {
@@ -17,8 +16,8 @@ fn bit(set: bool) -> u16
     if set { 1 } else { 0 }
 }
 
-// A record as a number of the table: the syntax from bit 6 on, m in bits 5 to 2, seq in bit 1.
-pub fn pack(given: Record) -> u16
+// A legal record as a number of the table: the syntax above bit 4, m in bits 4 to 1, seq in bit 0.
+pub(crate) fn pack(given: Record) -> u16
     ensures { λ r. ⌜ r ≡ packed given ⌝ }
 {
     let syntax = given.syntax;
@@ -52,9 +51,12 @@ pub fn meaning(number: u16) -> Found
     Found::Unprovisioned
 }
 
-// What is provisioned on a CID.
+// What is provisioned on a CID; nothing is on 0 to 3, whatever the table holds there.
 pub fn record_of(table: &[u16; 256], cid: u8) -> Found
-    ensures { λ r. ⌜ r ≡ meaning (getD (now (table .entry)) cid 0) ⌝ }
+    ensures { λ r. ⌜ r ≡ foundAt (now (table .entry)) cid ⌝ }
 {
+    if cid < 4 {
+        return Found::Unprovisioned;
+    }
     meaning(table[cid as usize])
 }

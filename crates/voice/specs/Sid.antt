@@ -42,7 +42,7 @@ noiseMade sequence (Code magnitude) = made ((sequence * 16) ∷ magnitude ∷ []
 noiseMade sequence Above = unmade valueOutOfRange
 noiseMade sequence Below = unmade valueOutOfRange
 
--- where two octets are due, and where none is: a value that would not be written is 15
+-- where two octets are due (without noise there are none: 13), and where none is: a value that would not be written is 15
 abbrev pub withNoise : Sid → Made
 withNoise (Noise sequence level) = cond (ltb 15 (sequence .0)) (unmade valueOutOfRange) (noiseMade (sequence .0) (codeOf 63 level))
 withNoise Plain = unmade lengthWrong
