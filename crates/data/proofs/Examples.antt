@@ -6,14 +6,10 @@ use Rattle.octets.specs.Made.{made, unmade}
 use Rattle.data.specs.declared.DataRead.the-variants.{Fragment, BadData}
 use Rattle.data.specs.Data.{judged, dataRead, dataMade}
 
--- document 01, example 11: B, E, sequence 300 is c12c; the body is one octet, aa
-pub example-11 : dataMade true true 300 (170 ∷ []) ≡ made (193 ∷ 44 ∷ 170 ∷ [])
-unfolding dataMade
-example-11 = refl
-
-pub example-11-read : dataRead (193 ∷ 44 ∷ 170 ∷ []) ≡ Fragment true true (record { 0 = 300 })
+-- document 01, example 11, read (written: crates/bench)
+pub example-11 : dataRead (193 ∷ 44 ∷ 170 ∷ []) ≡ Fragment true true (record { 0 = 300 })
 unfolding dataRead judged
-example-11-read = refl
+example-11 = refl
 
 -- 2000 is 13, 200000 is 14
 pub short : dataRead (32 ∷ 0 ∷ []) ≡ BadData 13

@@ -1,9 +1,10 @@
 -- What writing and reading a data payload have to do with each other. proofs/Back.antt has the proofs.
-use Prim.Native.Nat.{ℕ, _<_}
+use Prim.Native.Nat.{ℕ}
 use mathlib.Core.Path.{_≡_}
 use mathlib.Core.List.{List}
 use mathlib.Core.Bool.{Bool}
-use lib.ListN.{getD, drop}
+use lib.ListN.{drop}
+use Rattle.octets.specs.Octets.{Octets}
 use Rattle.octets.specs.Made.{made}
 use Rattle.counts.specs.declared.DataCount.{DataCount}
 use Rattle.data.specs.declared.DataRead.the-variants.{Fragment}
@@ -20,6 +21,6 @@ MadeReadsBack =
 abbrev pub ReadIsMade : Type 0
 ReadIsMade =
     (octets : List ℕ) (begins ends : Bool) (sequence : DataCount)
-    → ((i : ℕ) → getD octets i 0 < 256)
+    → Octets octets
     → dataRead octets ≡ Fragment begins ends sequence
     → dataMade begins ends (sequence .0) (drop 2 octets) ≡ made octets

@@ -2,20 +2,16 @@
 use mathlib.Core.Path.{_≡_, refl}
 use mathlib.Core.List.{[], _∷_}
 use mathlib.Core.Bool.{true}
-use Rattle.octets.specs.Made.{made, unmade}
+use Rattle.octets.specs.Made.{unmade}
 use Rattle.fax.specs.declared.Stamp.the-variants.{NoStamp, Stamped}
 use Rattle.fax.specs.declared.Command.the-variants.{Off, On, Page}
 use Rattle.fax.specs.declared.FaxRead.the-variants.{Fax, BadFax}
 use Rattle.fax.specs.Fax.{frontOf, isPage, bodySized, toneRefused, stampIn, ei2In, commandIn, spareIn, judged, told, faxRead, faxMade}
 
--- document 01, example 12: fax on, V.21, HDLC, stamp 1000, sequence 0 is 81e803810000
-pub example-12 : faxMade 0 (Stamped 1000) (On true 1 0) [] ≡ made (129 ∷ 232 ∷ 3 ∷ 129 ∷ 0 ∷ 0 ∷ [])
-unfolding faxMade bodySized toneRefused
-example-12 = refl
-
-pub example-12-read : faxRead (129 ∷ 232 ∷ 3 ∷ 129 ∷ 0 ∷ 0 ∷ []) ≡ Fax 0 (Stamped 1000) (On true 1 0) 6
+-- document 01, example 12, read (written: crates/bench)
+pub example-12 : faxRead (129 ∷ 232 ∷ 3 ∷ 129 ∷ 0 ∷ 0 ∷ []) ≡ Fax 0 (Stamped 1000) (On true 1 0) 6
 unfolding faxRead told judged frontOf bodySized toneRefused stampIn ei2In commandIn spareIn
-example-12-read = refl
+example-12 = refl
 
 -- on without EI1, command 5 with one octet: 14; no octet, and off with two: 13
 pub on-without-ei1 : faxRead (1 ∷ []) ≡ BadFax 14

@@ -1,8 +1,9 @@
 -- What writing and reading a fax payload have to do with each other. proofs/MadeReads.antt and proofs/ReadMakes.antt have the proofs.
-use Prim.Native.Nat.{ℕ, _<_}
+use Prim.Native.Nat.{ℕ}
 use mathlib.Core.Path.{_≡_}
 use mathlib.Core.List.{List}
-use lib.ListN.{getD, drop}
+use lib.ListN.{drop}
+use Rattle.octets.specs.Octets.{Octets}
 use Rattle.octets.specs.Made.{made}
 use Rattle.fax.specs.declared.Stamp.{Stamp}
 use Rattle.fax.specs.declared.Command.{Command}
@@ -20,6 +21,6 @@ MadeReadsBack =
 abbrev pub ReadIsMade : Type 0
 ReadIsMade =
     (octets : List ℕ) (sequence : ℕ) (stamp : Stamp) (command : Command) (front : ℕ)
-    → ((i : ℕ) → getD octets i 0 < 256)
+    → Octets octets
     → faxRead octets ≡ Fax sequence stamp command front
     → faxMade sequence stamp command (drop front octets) ≡ made octets

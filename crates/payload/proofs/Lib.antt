@@ -1,2 +1,3 @@
 pub mod LayoutCases
 pub mod CheckCases
+pub mod ContentBack
