@@ -5,4 +5,5 @@ pub mod Lines
 pub mod Steps
 pub mod Turns
 pub mod TextBack
+pub mod TextTaken
 pub mod Examples

@@ -1,5 +1,5 @@
 -- A line that was read: how long it is, what stands in the text, and what holds of the block so far.
-use Prim.Native.Nat.{ℕ, _+_, _<_, _≤_}
+use Prim.Native.Nat.{ℕ, _+_, _≤_}
 use mathlib.Core.Path.{_≡_, refl, sym, ap, subst, _∙_}
 use mathlib.Core.List.{List, [], _∷_, _++_, append-assoc}
 use mathlib.Core.Bool.{Bool, true, false}
@@ -25,6 +25,7 @@ use Rattle.record.specs.Record.{word, mostM, seqListed, legal}
 use Rattle.record.specs.Value.{starts, numberOf, further, numberLine, wordOf}
 use Rattle.record.specs.Line.{key, cidBy, syntaxBy, mBy, seqBy, syntaxLine, lineAt}
 use Rattle.record.specs.Back.{decimal, lineText, blockText}
+use Rattle.record.specs.Claims.{Risen}
 use Rattle.record.proofs.Packing as packing
 use Rattle.record.proofs.Values as values
 use Rattle.record.proofs.Numbers as numbers
@@ -40,11 +41,6 @@ soFarOf OfSeq cid syntax m =
 
 abbrev pub soFar : State → List ℕ
 soFar st = soFarOf (st .kind) (st .cid) (st .syntax) (st .m)
-
-pub record Risen (before cid : ℕ) : Type 0 where
-  pub above : before < cid
-  pub from : 4 ≤ cid
-  pub to : cid ≤ 255
 
 -- what holds of them, where `before` is the CID of the block before
 abbrev pub goodOf : Kind → ℕ → ℕ → Syntax → ℕ → Type 0

@@ -1,8 +1,8 @@
--- The other way: a text that is taken is the text of the table that it fills.
+-- The other way: a text that is taken is the text of the table that it fills (`TextBack` of specs/Claims.antt).
 use Prim.Native.Nat.{ℕ, zero, suc, _+_, _<_, _≤_}
 use mathlib.Core.Path.{_≡_, refl, sym, ap, subst, _∙_}
 use mathlib.Core.List.{List, [], _∷_, _++_}
-use mathlib.Core.Bool.{true, cond}
+use mathlib.Core.Bool.{cond}
 use mathlib.Core.Logic.{_⊎_, ⊎-elim}
 use native.Mathlib.Omega.{arith}
 use borrow.Author.Tests.{eq-eqb, ne-eqb}
@@ -18,23 +18,14 @@ use Rattle.record.specs.declared.line.Kind.the-variants.{OfCid, OfSyntax
 use Rattle.record.specs.declared.line.State.{State}
 use Rattle.record.specs.declared.line.Step.{Step}
 use Rattle.record.specs.declared.line.Step.the-variants.{Goes, Ends, Stops}
-use Rattle.record.specs.Record.{legal, packed, meaning}
+use Rattle.record.specs.Record.{packed, meaning}
 use Rattle.record.specs.Line.{afterBlock, lineAt}
-use Rattle.record.specs.Text.{mostOctets, Entry, Reading, refused, taken, before, atEnd, onwards, walk, reading, filled, tableOf}
+use Rattle.record.specs.Text.{mostOctets, Entry, Reading, refused, taken, before, atEnd, onwards, walk, filled, tableOf}
 use Rattle.record.specs.Back.{blockText, textFrom, textOfTable}
+use Rattle.record.specs.Claims.{textOf, Rises, TextBack}
 use Rattle.record.proofs.Packing as packing
 use Rattle.record.proofs.Steps as steps
 use Rattle.record.proofs.Turns as turns
-
--- the blocks of entries, one after the other
-abbrev pub textOf : List Entry → List ℕ
-textOf [] = []
-textOf (e ∷ es) = blockText (e .cid) (e .made) ++ textOf es
-
--- entries of legal records, on strictly rising CIDs from 4 to 255
-abbrev pub Rises : ℕ → List Entry → Type 0
-Rises last [] = Unit {0}
-Rises last (e ∷ es) = steps.Risen last (e .cid) × (legal (e .made) ≡ true) × Rises (e .cid) es
 
 pub record Back (last : ℕ) (st : State) (s : List ℕ) (es : List Entry) : Type 0 where
   pub text : steps.soFar st ++ s ≡ textOf es
@@ -189,7 +180,7 @@ table-back es last r =
     ∙ ap (λ (d : ℕ). lookup d j es) (getD-replicate {A = ℕ} 256 j 0 0 b))
 
 -- For every text: where it is taken, the text of its table is that text.
-pub text-back : (s : List ℕ) (es : List Entry) → reading s ≡ taken es → textOfTable (tableOf es) ≡ s
+pub text-back : TextBack
 text-back s es e =
     ⊎-elim (λ long. never _ _ es (sym (turns.too-long s long) ∙ e))
     (λ fits.

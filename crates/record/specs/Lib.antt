@@ -3,3 +3,4 @@ pub mod Value
 pub mod Back
 pub mod Line
 pub mod Text
+pub mod Claims
