@@ -1,4 +1,4 @@
--- The starred bench examples (document 01, "Bench examples"): what the definitions give, and what is due. Proved in
+-- The starred bench examples 1 to 9, 11 and 12 (document 01, "Bench examples"): what the definitions give, and what is due. Proved in
 -- proofs/Hold.antt.
 use Prim.Native.Nat.{ℕ}
 use mathlib.Core.Path.{_≡_}

@@ -1,4 +1,4 @@
-// Document 01's examples of refusals 11 to 16 and 31 to 34, run: a line a case, what is answered behind its name.
+// Examples of document 01's refusals 11 to 16 and 31 to 34, run: a line a case, what is answered behind its name.
 mod payloads;
 mod print;
 mod texts;

@@ -117,7 +117,7 @@ fn rising() {
     );
 }
 
-// 34: over 8,192 octets, before anything else. After its sound block each text has LFs alone.
+// 34: over 8,192 octets, before anything else. The first two have LFs alone after a sound block.
 fn long() {
     let block = b"cid=5\nsyntax=acelp\nm=1\nseq=0\n";
     let mut most = [b'\n'; 8192];

@@ -16,7 +16,7 @@ written room at octets = take at room ++ octets ++ drop (at + length octets) roo
 unfoldable pub put : List ℕ → ℕ → List ℕ → Put
 put room at octets = cond (ltb (length room) (at + length octets)) (NotWritten roomTooSmall) (Written (at + length octets))
 
--- what the room holds then: "a refusal leaves lent memory untouched"
+-- what the room holds then: "all lent memory and state stand as at entry"
 abbrev pub leftBy : Put → List ℕ → ℕ → List ℕ → List ℕ
 leftBy (Written next) room at octets = written room at octets
 leftBy (NotWritten number) room at octets = room

@@ -6,7 +6,7 @@ use mathlib.Core.Bool.{false}
 use lib.ListN.{replicate}
 use Rattle.record.specs.declared.syntax.Syntax.the-variants.{Acelp, Pcm, G7231, Data, Fax}
 use Rattle.record.specs.declared.line.Kind.the-variants.{OfCid, OfSyntax, OfM, OfSeq}
-use Rattle.record.specs.Record.{word, syntaxAt, packed, meaning}
+use Rattle.record.specs.Record.{word, syntaxAt, packed, meaning, foundAt}
 use Rattle.record.specs.Value.{starts, hasLf, digitOf, thirdDigit, secondDigit, numberBy, numberLine, wordAmong}
 use Rattle.record.specs.Line.{key, cidBy, syntaxBy, mBy, seqBy, syntaxLine}
 use Rattle.record.specs.Text.{Entry, Reading, refused, taken, walk, reading, tableOf}
@@ -117,5 +117,5 @@ told = refl
 
 -- the block back from its table
 back : textOfTable (tableOf (made ∷ [])) ≡ block
-unfolding cid syntax m seq block made textFrom blockText decimal meaning packed syntaxAt
+unfolding cid syntax m seq block made textFrom blockText decimal foundAt meaning packed syntaxAt
 back = refl

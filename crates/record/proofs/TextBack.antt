@@ -18,7 +18,7 @@ use Rattle.record.specs.declared.line.Kind.the-variants.{OfCid, OfSyntax
 use Rattle.record.specs.declared.line.State.{State}
 use Rattle.record.specs.declared.line.Step.{Step}
 use Rattle.record.specs.declared.line.Step.the-variants.{Goes, Ends, Stops}
-use Rattle.record.specs.Record.{packed, meaning}
+use Rattle.record.specs.Record.{packed, meaning, foundAt}
 use Rattle.record.specs.Line.{afterBlock, lineAt}
 use Rattle.record.specs.Text.{mostOctets, Entry, Reading, refused, taken, before, atEnd, onwards, walk, filled, tableOf}
 use Rattle.record.specs.Back.{blockText, textFrom, textOfTable}
@@ -129,21 +129,24 @@ zero-means = refl
 -- the text of the CIDs after `last`, where the table holds these entries there
 from-back :
     (room last : ℕ) (t : List ℕ) (es : List Entry)
+    → 3 ≤ last
     → last + 1 + room ≡ 256
     → Rises last es
     → ((j : ℕ) → last < j → j < 256 → getD t j 0 ≡ lookup 0 j es)
     → textFrom room (last + 1) t ≡ textOf es
 unfolding textFrom
-from-back zero last t [] all r holds = refl
-from-back zero last t (e ∷ es) all r holds =
+from-back zero last t [] from all r holds = refl
+from-back zero last t (e ∷ es) from all r holds =
     let above : last < e .cid = r .0 .above in
     let to : e .cid ≤ 255 = r .0 .to in
     absurd (omega arith)
-from-back (suc room) last t [] all r holds =
+from-back (suc room) last t [] from all r holds =
     let here : getD t (last + 1) 0 ≡ 0 = holds (last + 1) (omega arith) (omega arith) in
-    let later = from-back room (last + 1) t [] (omega arith) tt (λ j a b. holds j (omega arith) b) in
-    rw (here, zero-means) later
-from-back (suc room) last t (e ∷ es) all r holds =
+    let later = from-back room (last + 1) t [] (omega arith) (omega arith) tt (λ j a b. holds j (omega arith) b) in
+    let found : foundAt t (last + 1) ≡ meaning (getD t (last + 1) 0) = packing.on-cid t (last + 1) (omega arith) in
+    rw (found, here, zero-means) later
+from-back (suc room) last t (e ∷ es) from all r holds =
+    let found : foundAt t (last + 1) ≡ meaning (getD t (last + 1) 0) = packing.on-cid t (last + 1) (omega arith) in
     let above : last < e .cid = r .0 .above in
     ⊎-elim
     (λ same.
@@ -152,16 +155,16 @@ from-back (suc room) last t (e ∷ es) all r holds =
     let here : getD t (last + 1) 0 ≡ packed (e .made) = holds (last + 1) (omega arith) (omega arith) ∙ value in
     let means : meaning (getD t (last + 1) 0) ≡ Provisioned (e .made) = ap meaning here ∙ packing.back (e .made) (r .1) in
     let later =
-    from-back room (last + 1) t es (omega arith) (subst (λ (n : ℕ). Rises n es) (sym same) (r .2))
+    from-back room (last + 1) t es (omega arith) (omega arith) (subst (λ (n : ℕ). Rises n es) (sym same) (r .2))
     (λ j a b. holds j (omega arith) b ∙ simp (ne-eqb j (e .cid) (λ p. omega arith))) in
-    rw (means, later, same))
+    rw (found, means, later, same))
     (λ other.
     let beyond : last + 1 < e .cid = beyond-of (last + 1) (e .cid) (omega arith) other in
     let raised : Rises (last + 1) (e ∷ es) = (record { above = beyond; from = r .0 .from; to = r .0 .to }, r .1, r .2) in
     let here : getD t (last + 1) 0 ≡ 0 =
     holds (last + 1) (omega arith) (omega arith) ∙ absent (e ∷ es) (last + 1) 0 (last + 1) raised (omega arith) in
-    let later = from-back room (last + 1) t (e ∷ es) (omega arith) raised (λ j a b. holds j (omega arith) b) in
-    rw (here, zero-means) later)
+    let later = from-back room (last + 1) t (e ∷ es) (omega arith) (omega arith) raised (λ j a b. holds j (omega arith) b) in
+    rw (found, here, zero-means) later)
     (eq-or-ne (last + 1) (e .cid))
   where
     beyond-of : (m n : ℕ) → m ≤ n → (m ≡ n → ⊥) → m < n
@@ -174,7 +177,7 @@ above-three (e ∷ es) last r = (record { above = r .0 .from; from = r .0 .from;
 
 pub table-back : (es : List Entry) (last : ℕ) → Rises last es → textOfTable (tableOf es) ≡ textOf es
 table-back es last r =
-    from-back 252 3 (tableOf es) es refl (above-three es last r)
+    from-back 252 3 (tableOf es) es (omega arith) refl (above-three es last r)
     (λ j a b.
     filled-gives (replicate 256 0) es j b
     ∙ ap (λ (d : ℕ). lookup d j es) (getD-replicate {A = ℕ} 256 j 0 0 b))

@@ -3,12 +3,11 @@ use Prim.Native.Nat.{ℕ, zero, suc, _+_, _/_, _%_}
 use mathlib.Core.List.{List, [], _∷_, _++_}
 use mathlib.Core.Bool.{cond}
 use lib.Dec.{ltb}
-use lib.ListN.{getD}
 use Rattle.record.specs.declared.syntax.Record.{Record}
 use Rattle.record.specs.declared.table.Found.{Found}
 use Rattle.record.specs.declared.table.Found.the-variants.{Provisioned, Unprovisioned}
 use Rattle.record.specs.declared.line.Kind.the-variants.{OfCid, OfSyntax, OfM, OfSeq}
-use Rattle.record.specs.Record.{word, meaning}
+use Rattle.record.specs.Record.{word, foundAt}
 use Rattle.record.specs.Value.{lf}
 use Rattle.record.specs.Line.{key}
 
@@ -37,7 +36,7 @@ textOfFound cid Unprovisioned = []
 -- the blocks of `room` CIDs from `cid` on
 unfoldable pub textFrom : ℕ → ℕ → List ℕ → List ℕ
 textFrom zero cid t = []
-textFrom (suc room) cid t = textOfFound cid (meaning (getD t cid 0)) ++ textFrom room (cid + 1) t
+textFrom (suc room) cid t = textOfFound cid (foundAt t cid) ++ textFrom room (cid + 1) t
 
 -- The text of a table: a block for each provisioned CID from 4 to 255, in order.
 abbrev pub textOfTable : List ℕ → List ℕ

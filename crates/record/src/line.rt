@@ -33,7 +33,7 @@ pub enum Step {
 }
 
 // What is due before the first block, and after a block of this CID.
-pub fn fresh(cid: u8) -> State
+pub(crate) fn fresh(cid: u8) -> State
     ensures { λ r. ⌜ r ≡ afterBlock cid ⌝ }
 {
     State {
@@ -149,7 +149,7 @@ fn seq_line(s: &[u8], cid: u8, syntax: Syntax, m: u8) -> Step
 }
 
 // The line that a text starts with.
-pub fn line_at(s: &[u8], state: State) -> Step
+pub(crate) fn line_at(s: &[u8], state: State) -> Step
     ensures { λ r. ⌜ r ≡ lineAt state (now (s .entry)) ⌝ }
 {
     let kind = state.kind;

@@ -21,7 +21,7 @@ pub enum Word {
 }
 
 // Whether a text starts with a word.
-pub fn starts(s: &[u8], with: &[u8]) -> bool
+pub(crate) fn starts(s: &[u8], with: &[u8]) -> bool
     ensures { λ r. ⌜ r ≡ starts (now (s .entry)) (now (with .entry)) ⌝ }
 {
     let mut i = 0;
@@ -102,7 +102,7 @@ fn number_of(s: &[u8]) -> Number
 }
 
 // A key, then a number.
-pub fn number_line(s: &[u8], key: &[u8]) -> Number
+pub(crate) fn number_line(s: &[u8], key: &[u8]) -> Number
     ensures { λ r. ⌜ r ≡ numberLine (now (key .entry)) (now (s .entry)) ⌝ }
 {
     if starts(s, key) {
@@ -123,7 +123,7 @@ pub fn number_line(s: &[u8], key: &[u8]) -> Number
 }
 
 // The syntax word that a text starts with.
-pub fn word_of(s: &[u8]) -> Word
+pub(crate) fn word_of(s: &[u8]) -> Word
     ensures { λ r. ⌜ r ≡ wordOf (now (s .entry)) ⌝ }
 {
     if starts(s, b"acelp\n") {
