@@ -23,7 +23,7 @@ use Rattle.digits.specs.declared.layout.Digits.{Digits}
 use Rattle.digits.specs.declared.layout.DigitsRead.{DigitsRead}
 use Rattle.digits.specs.declared.layout.DigitsRead.the-variants.{Dialled, BadDigits}
 use Rattle.digits.specs.Layout.{windowReserved, windowOut, windowOf, judged, digitsRead, windowWrong, windowOctets, windowFirst, windowSecond, levelLow, levelCode, digitsOctets, digitsHead, digitsMade}
-use Rattle.digits.specs.Claims.{normalLevel, normalWindow, normal, DigitsReadBack, heard, unheard, DigitsMadeAgain}
+use Rattle.digits.specs.Claims.{normalLevel, normalWindow, normal, DigitsReadBack, heard, unheard, DigitsMadeAgain, DigitsReadAlike}
 use Rattle.digits.proofs.LayoutCases as cases
 
 -- a content that is made into octets: its level and windows are in their ranges
@@ -309,3 +309,10 @@ digits-made-again d p small e =
     (was _ _ _ _ _ _ _ _ d (sym (cases.eight p whole) ∙ e)))
     (λ wrong. never _ _ d (cases.wrong p wrong) e)
     (eq-or-ne (length p) 8)
+
+pub digits-read-alike : DigitsReadAlike
+digits-read-alike d p small e =
+    let again = digits-made-again d p small e in (
+      ⊎-elim (λ whole. sym whole) (λ wrong. never _ _ d (cases.wrong p wrong) e) (eq-or-ne (length p) 8),
+      digits-read-back d (unheard p) (again .1) ∙ ap Dialled (again .0),
+    )

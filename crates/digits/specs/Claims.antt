@@ -4,7 +4,7 @@ use mathlib.Core.Path.{_≡_}
 use mathlib.Core.List.{List, [], _∷_}
 use mathlib.Core.Bool.{cond}
 use lib.Dec.{eqb}
-use lib.ListN.{getD}
+use lib.ListN.{length, getD}
 use lib.IntN.{ℤ, pos, negsuc}
 use Rattle.octets.specs.Octets.{Octets}
 use Rattle.octets.specs.Made.{made}
@@ -58,3 +58,11 @@ DigitsMadeAgain =
     → Octets octets
     → digitsRead octets ≡ Dialled d
     → (normal d ≡ d) × (digitsMade d ≡ made (unheard octets))
+
+-- Those octets are as many, and read the same.
+abbrev pub DigitsReadAlike : Type 0
+DigitsReadAlike =
+    (d : Digits) (octets : List ℕ)
+    → Octets octets
+    → digitsRead octets ≡ Dialled d
+    → (length (unheard octets) ≡ length octets) × (digitsRead (unheard octets) ≡ Dialled d)

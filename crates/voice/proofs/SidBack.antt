@@ -25,7 +25,7 @@ use Rattle.voice.specs.declared.sid.SidRead.{SidRead}
 use Rattle.voice.specs.declared.sid.SidRead.the-variants.{Silence, BadSid}
 use Rattle.voice.specs.Voice.{codings}
 use Rattle.voice.specs.Sid.{sidOctets, sidRead, noiseMade, withNoise, withoutNoise, sidMade, noiseHead, sidHead}
-use Rattle.voice.specs.Claims.{SidReadsBack, SidMadeAgain, unreserved}
+use Rattle.voice.specs.Claims.{SidReadsBack, SidMadeAgain, SidReadAlike, unreserved}
 use Rattle.voice.proofs.SidCases as cases
 
 two-or-none : (syntax : Syntax) → (sidOctets syntax ≡ 0 → ⊥) → sidOctets syntax ≡ 2
@@ -167,3 +167,12 @@ sid-made-again syntax sid octets small e =
     (λ wrong. never-bad _ _ sid (cases.wrong syntax octets voice wrong) e)
     (eq-or-ne (length octets) (sidOctets syntax)))
     (eq-or-ne (codings syntax) 0)
+
+as-many : (octets : List ℕ) → length (unreserved octets) ≡ length octets
+as-many [] = refl
+as-many (a ∷ []) = refl
+as-many (a ∷ b ∷ rest) = refl
+
+pub sid-read-alike : SidReadAlike
+sid-read-alike syntax sid octets small e =
+    (as-many octets, sid-reads-back syntax sid (unreserved octets) (sid-made-again syntax sid octets small e))

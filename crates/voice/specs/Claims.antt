@@ -2,7 +2,7 @@
 use Prim.Native.Nat.{ℕ, _*_, _/_, _%_}
 use mathlib.Core.Path.{_≡_}
 use mathlib.Core.List.{List, [], _∷_}
-use lib.ListN.{drop}
+use lib.ListN.{length, drop}
 use Rattle.octets.specs.Octets.{Octets}
 use Rattle.octets.specs.Made.{made}
 use Rattle.record.specs.declared.syntax.Record.{Record}
@@ -45,3 +45,11 @@ SidMadeAgain =
     → Octets octets
     → sidRead syntax octets ≡ Silence sid
     → sidMade syntax sid ≡ made (unreserved octets)
+
+-- Those octets are as many, and read the same.
+abbrev pub SidReadAlike : Type 0
+SidReadAlike =
+    (syntax : Syntax) (sid : Sid) (octets : List ℕ)
+    → Octets octets
+    → sidRead syntax octets ≡ Silence sid
+    → (length (unreserved octets) ≡ length octets) × (sidRead syntax (unreserved octets) ≡ Silence sid)
