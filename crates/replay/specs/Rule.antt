@@ -1,0 +1,22 @@
+-- The receivers' rule, once for digits and signalling (document 01, "Receivers"): which periods a payload appends, by its step.
+use Prim.Native.Nat.{ℕ, _-_}
+use mathlib.Core.List.{List}
+use mathlib.Core.Bool.{Bool, cond}
+use lib.Dec.{ltb}
+use lib.ListN.{drop}
+
+-- "First payload: append all three windows (house)": a step of 3.
+abbrev pub stepTaken : Bool → ℕ → ℕ
+stepTaken heard step = cond heard step 3
+
+-- "Step 4 or more: step - 3 filled periods, then three."
+abbrev pub fillCount : ℕ → ℕ
+fillCount step = step - 3
+
+-- "Step 1, 2, 3: the newest 1, 2, 3", and three from there on.
+abbrev pub carriedCount : ℕ → ℕ
+carriedCount step = cond (ltb step 3) step 3
+
+-- These of the three windows of a payload, which stand oldest first.
+abbrev pub newest : {A : Type 0} → ℕ → List A → List A
+newest step windows = drop (3 - step) windows
