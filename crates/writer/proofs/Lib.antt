@@ -1,0 +1,2 @@
+pub mod PlaceCases
+pub mod WriteCases

@@ -1,0 +1,96 @@
+-- The writer (document 01, "Refusal numbers"): "The writer takes one sub-frame at a time, each told last or not. Its order: 24,
+-- 4, 11 to 16, 22, 23, 21; 21 exactly when header and payload exceed the room left."
+use Prim.Native.Nat.{ℕ, _+_}
+use mathlib.Core.List.{List, _++_}
+use mathlib.Core.Bool.{Bool, true, false, cond}
+use lib.Dec.{ltb}
+use lib.ListN.{length}
+use Rattle.refusal.specs.Numbers.{cidReserved, notProvisioned, roomTooSmall, tooLongNotLast, frameFull, alreadyLast}
+use Rattle.octets.specs.declared.Fit.{Fit}
+use Rattle.octets.specs.declared.Fit.the-variants.{Octets, Unfit}
+use Rattle.octets.specs.Made.{Made, made, unmade}
+use Rattle.octets.specs.Room.{written}
+use Rattle.record.specs.declared.table.Found.{Found}
+use Rattle.record.specs.declared.table.Found.the-variants.{Provisioned, Unprovisioned}
+use Rattle.frame.specs.Opening.{mostOctets, mostSubFrames}
+use Rattle.frame.specs.Joining.{shortestHeader, headerSize}
+use Rattle.payload.specs.declared.layout.Kind.{Kind}
+use Rattle.payload.specs.declared.layout.TypeFor.{TypeFor}
+use Rattle.payload.specs.declared.layout.TypeFor.the-variants.{Typed, NoType}
+use Rattle.payload.specs.Layout.{typeFor}
+use Rattle.payload.specs.Content.{Content, kindOf, madeOn}
+use Rattle.writer.specs.declared.place.Writer.{Writer}
+use Rattle.writer.specs.declared.place.Channel.{Channel}
+use Rattle.writer.specs.declared.place.Channel.the-variants.{Takes, TakesNot}
+use Rattle.writer.specs.declared.place.Entered.{Entered}
+use Rattle.writer.specs.declared.place.Entered.the-variants.{Place, NoPlace}
+
+abbrev pub freshWriter : Writer
+freshWriter = record { at = 0; count = 0; done = false }
+
+-- 24, 4, then 11 and 12: the record of the sub-channel and the content's type there.
+abbrev pub onChannel : TypeFor → Found → Channel
+onChannel (Typed ptype) (Provisioned r) = Takes r ptype
+onChannel (Typed ptype) Unprovisioned = TakesNot notProvisioned
+onChannel (NoType number) found = TakesNot number
+
+unfoldable pub channelFor : Writer → Found → ℕ → Kind → Channel
+channelFor w found cid kind =
+    cond (w .done) (TakesNot alreadyLast) (cond (ltb cid 4) (TakesNot cidReserved) (onChannel (typeFor found kind) found))
+
+-- 22: "over 255 octets and not last".
+abbrev pub tooLong : Bool → ℕ → Bool
+tooLong last len = cond last false (ltb 255 len)
+
+-- 23: "frame would pass 1,600 octets or 64 sub-frames".
+abbrev pub full : Writer → ℕ → Bool
+full w end = cond (ltb mostSubFrames (w .count + 1)) true (ltb mostOctets end)
+
+-- 22, 23, 21, for a payload of len octets: where it begins, behind its header, and the writer after it.
+unfoldable pub placed : ℕ → Writer → Bool → ℕ → ℕ → ℕ → Entered
+placed room w last cid ptype len =
+    let start = w .at + headerSize cid ptype last in
+    cond (tooLong last len) (NoPlace tooLongNotLast)
+    (cond (full w (start + len)) (NoPlace frameFull)
+    (cond (ltb room (start + len)) (NoPlace roomTooSmall)
+    (Place start (record { at = start + len; count = w .count + 1; done = last }))))
+
+abbrev pub entered : ℕ → Writer → Bool → ℕ → ℕ → Fit → Entered
+entered room w last cid ptype (Octets len) = placed room w last cid ptype len
+entered room w last cid ptype (Unfit number) = NoPlace number
+
+-- the octets of what fits, and the lent frame with the header in its place
+abbrev pub sizeOf : Fit → ℕ
+sizeOf (Octets len) = len
+sizeOf (Unfit number) = 0
+
+abbrev pub leftEntered : Entered → List ℕ → ℕ → List ℕ → List ℕ
+leftEntered (Place start next) room at header = written room at header
+leftEntered (NoPlace number) room at header = room
+
+-- What the writer does with a sub-frame: it takes it, as these octets, and goes on; or it refuses it.
+pub data Writing : Type 0 where
+  writes : List ℕ → Writer → Writing
+  refuses : ℕ → Writing
+
+abbrev pub behind : Entered → List ℕ → List ℕ → Writing
+behind (Place start next) header payload = writes (header ++ payload) next
+behind (NoPlace number) header payload = refuses number
+
+abbrev pub ofMade : ℕ → Writer → Bool → ℕ → ℕ → Made → Writing
+ofMade room w last cid ptype (made octets) =
+    behind (placed room w last cid ptype (length octets)) (shortestHeader cid ptype last (length octets)) octets
+ofMade room w last cid ptype (unmade number) = refuses number
+
+abbrev pub onto : Channel → ℕ → Writer → Bool → ℕ → Content → Writing
+onto (Takes r ptype) room w last cid content = ofMade room w last cid ptype (madeOn r content)
+onto (TakesNot number) room w last cid content = refuses number
+
+-- A content for a sub-channel of this CID and with this record, in a lent frame of `room` octets.
+unfoldable pub writing : ℕ → Writer → Bool → Found → ℕ → Content → Writing
+writing room w last found cid content = onto (channelFor w found cid (kindOf content)) room w last cid content
+
+-- The lent frame then: "all lent memory and state stand as at entry" where it is refused.
+abbrev pub leftWriting : Writing → List ℕ → ℕ → List ℕ
+leftWriting (writes octets next) room at = written room at octets
+leftWriting (refuses number) room at = room

@@ -1,0 +1,153 @@
+// Where the writer stands, and what it tests before a sub-frame's payload (document 01, "Refusal numbers": "Its order: 24, 4,
+// 11 to 16, 22, 23, 21").
+use octets::Fit;
+use payload::layout::Kind;
+use payload::layout::TypeFor;
+use record::syntax::Record;
+use record::table::Found;
+ghost use mathlib.Core.Path.{_≡_};
+ghost use Prim.Native.Nat.{_+_, _≤_};
+ghost use lib.ListN.{length};
+ghost use Rattle.record.specs.Record.{foundAt};
+ghost use Rattle.frame.specs.Joining.{shortestHeader};
+ghost use Rattle.writer.specs.Writer.{freshWriter, channelFor, tooLong, full, placed, entered, leftEntered, sizeOf};
+
+// The largest frame, in octets and in sub-frames (house).
+const MOST_OCTETS: usize = 1600;
+
+const MOST_SUB_FRAMES: usize = 64;
+
+// The largest payload that is not last, by its length octet.
+const MOST_NOT_LAST: usize = 255;
+
+// Where the writer stands: the octets and the sub-frames written, and whether the last one is among them. Every value is taken.
+pub struct Writer {
+    pub at: usize,
+    pub count: usize,
+    pub done: bool,
+}
+
+// What a sub-channel takes a content as.
+pub(crate) enum Channel {
+    // Its record, and the content's payload type there.
+    Takes { rec: Record, ptype: u8 },
+    // The refusal number: 24, 4, 11 or 12.
+    TakesNot(u8),
+}
+
+// Whether a sub-frame has its place.
+pub(crate) enum Entered {
+    // Where the payload begins, and the writer after it.
+    Place { start: usize, next: Writer },
+    // The refusal number: the payload's own, 22, 23 or 21.
+    NoPlace(u8),
+}
+
+// The writer at the start of a frame.
+pub fn fresh() -> Writer
+    ensures { λ r. ⌜ r ≡ freshWriter ⌝ }
+{
+    Writer {
+        at: 0,
+        count: 0,
+        done: false,
+    }
+}
+
+// 24, 4, 11, 12: what the sub-channel takes a content of this kind as.
+pub(crate) fn channel_for(writer: Writer, table: &[u16; 256], cid: u8, kind: Kind) -> Channel
+    ensures { λ r. ⌜ r ≡ channelFor writer (foundAt (now (table .entry)) cid) cid kind ⌝ }
+{
+    if writer.done {
+        return Channel::TakesNot(refusal::ALREADY_LAST);
+    }
+    if cid < 4 {
+        return Channel::TakesNot(refusal::CID_RESERVED);
+    }
+    let found = record::table::record_of(table, cid);
+    match payload::layout::type_for(found, kind) {
+        TypeFor::NoType(number) => Channel::TakesNot(number),
+        TypeFor::Typed(ptype) => match found {
+            Found::Provisioned(rec) => Channel::Takes { rec, ptype },
+            Found::Unprovisioned => Channel::TakesNot(refusal::NOT_PROVISIONED),
+        },
+    }
+}
+
+// 22: over 255 octets and not last.
+fn too_long(last: bool, len: usize) -> bool
+    ensures { λ r. ⌜ r ≡ tooLong last len ⌝ }
+{
+    if last {
+        return false;
+    }
+    MOST_NOT_LAST < len
+}
+
+// 23: a frame that would pass 64 sub-frames or, with a header and a payload of so many octets, 1,600 octets.
+fn full(writer: Writer, header: usize, len: usize) -> bool
+    ensures { λ r. ⌜ r ≡ full writer (writer .at + header + len) ⌝ }
+{
+    if MOST_SUB_FRAMES <= writer.count {
+        return true;
+    }
+    if MOST_OCTETS < writer.at {
+        return true;
+    }
+    if MOST_OCTETS - writer.at < header {
+        return true;
+    }
+    MOST_OCTETS - writer.at - header < len
+}
+
+// 22, 23, 21: whether a payload of so many octets has its place in so much room.
+fn place(room: usize, writer: Writer, last: bool, cid: u8, ptype: u8, len: usize) -> Entered
+    ensures { λ r. ⌜ r ≡ placed room writer last cid ptype len ⌝ }
+{
+    if too_long(last, len) {
+        return Entered::NoPlace(refusal::TOO_LONG_NOT_LAST);
+    }
+    let header = frame::joining::header_size(cid, ptype, last);
+    if full(writer, header, len) {
+        return Entered::NoPlace(refusal::FRAME_FULL);
+    }
+    let start = writer.at + header;
+    let end = start + len;
+    if room < end {
+        return Entered::NoPlace(refusal::ROOM_TOO_SMALL);
+    }
+    Entered::Place {
+        start,
+        next: Writer {
+            at: end,
+            count: writer.count + 1,
+            done: last,
+        },
+    }
+}
+
+// 13 to 16 as the payload fits, then 22, 23, 21; where it has its place, its header is written.
+pub(crate) fn enter(
+    frame: &mut [u8],
+    writer: Writer,
+    last: bool,
+    cid: u8,
+    ptype: u8,
+    fit: Fit,
+) -> Entered
+    requires free { ⌜ 4 ≤ cid ⌝ }
+    requires bits { ⌜ ptype ≤ 15 ⌝ }
+    ensures answer { λ r. ⌜ r ≡ entered (length (now (frame .entry))) writer last cid ptype fit ⌝ }
+    ensures holds { λ r. ⌜ now (frame .exit) ≡ leftEntered r (now (frame .entry)) (writer .at) (shortestHeader cid ptype last (sizeOf fit)) ⌝ }
+{
+    match fit {
+        Fit::Unfit(number) => Entered::NoPlace(number),
+        Fit::Octets(len) => match place(frame.len(), writer, last, cid, ptype, len) {
+            Entered::NoPlace(number) => Entered::NoPlace(number),
+            Entered::Place { start, next } => {
+                frame::joining::put_header(frame, writer.at, cid, ptype, last, (len % 256) as u8);
+                Entered::Place { start, next }
+            }
+        },
+    }
+}
