@@ -1,2 +1,3 @@
 pub mod PlaceCases
 pub mod WriteCases
+pub mod WriteBack

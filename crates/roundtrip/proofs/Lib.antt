@@ -1,0 +1,4 @@
+pub mod Feeding
+pub mod RoundTrip
+pub mod Taken
+pub mod LessRoom

@@ -1,0 +1,157 @@
+-- Contents that are made and fit are taken, and written as joined.
+use Prim.Native.Nat.{ℕ, _+_, _≤_}
+use mathlib.Core.Path.{_≡_, refl, sym, ap, ap₂, _∙_}
+use mathlib.Core.List.{List, [], _∷_, _++_}
+use mathlib.Core.Bool.{Bool, true, false}
+use native.Mathlib.Nat.{add-zero, zero-add}
+use native.Mathlib.Omega.{arith}
+use borrow.Author.Tests.{le-ltb}
+use lib.ListN.{length, length-append}
+use Rattle.octets.specs.Room.{written}
+use Rattle.octets.proofs.Writes.{length-written, written-twice}
+use Rattle.record.specs.Record.{foundAt}
+use Rattle.frame.specs.Joining.{joined, isNone, headerSize, shortestHeader}
+use Rattle.frame.specs.Joining as joining
+use Rattle.frame.proofs.HeaderWritten as header
+use Rattle.framing.specs.Claims.{Carriable, Each, Fits}
+use Rattle.writer.specs.declared.place.Writer.{Writer}
+use Rattle.writer.specs.Writer.{freshWriter, tooLong, Writing, writes, writing, leftWriting}
+use Rattle.writer.proofs.WriteBack.{takes}
+use Rattle.roundtrip.specs.Demand2.{Sub, isLast, Fed, took, after, onwards, first, fed, AllMade, MadeIsTaken}
+use Rattle.roundtrip.proofs.Feeding.{last-alike, none-written}
+
+-- the writer after these, from where it stood
+abbrev beyond : Writer → List joining.Content → Writer
+beyond w cs = record { at = w .at + length (joined cs); count = w .count + length cs; done = true }
+
+short : (c : joining.Content) (last : Bool) → Carriable c last → tooLong last (length (c .payload)) ≡ false
+short c true fits = refl
+short c false fits = le-ltb 255 (length (c .payload)) (fits .short refl)
+
+-- the first sub-frame is written as its header and its payload
+module _ (table frame : List ℕ) (w : Writer) (s : Sub) (ss : List Sub) (c : joining.Content) (cs : List joining.Content)
+    (all : AllMade table (s ∷ ss) (c ∷ cs)) (each : Each (c ∷ cs)) (going : w .done ≡ false) (few : w .count + length (c ∷ cs) ≤ 64)
+    (within : w .at + length (joined (c ∷ cs)) ≤ 1600) (inside : w .at + length (joined (c ∷ cs)) ≤ length frame) where
+  octets : List ℕ
+  octets = shortestHeader (c .cid) (c .ptype) (isNone cs) (length (c .payload)) ++ c .payload
+
+  next : Writer
+  next = record { at = w .at + length octets; count = w .count + 1; done = isNone cs }
+
+  size : headerSize (c .cid) (c .ptype) (isNone cs) + length (c .payload) ≡ length octets
+  unfolding octets
+  size =
+      sym
+      (length-append (shortestHeader (c .cid) (c .ptype) (isNone cs) (length (c .payload))) (c .payload)
+      ∙ ap (λ (n : ℕ). n + length (c .payload)) (header.size-is (c .cid) (c .ptype) (isNone cs) (length (c .payload))))
+
+  whole : length (joined (c ∷ cs)) ≡ length octets + length (joined cs)
+  unfolding joined octets
+  whole = length-append (shortestHeader (c .cid) (c .ptype) (isNone cs) (length (c .payload)) ++ c .payload) (joined cs)
+
+  does : first table frame w s ss ≡ writes octets next
+  unfolding octets next
+  does =
+      let cid : c .cid ≡ s .cid = all .0 .0 in
+      let alike : isLast ss ≡ isNone cs = last-alike table ss cs (all .1) in
+      let sum : length (joined (c ∷ cs)) ≡ length octets + length (joined cs) = whole in
+      let one : headerSize (c .cid) (c .ptype) (isNone cs) + length (c .payload) ≡ length octets = size in
+      let most : w .at + headerSize (c .cid) (c .ptype) (isNone cs) + length (c .payload) ≤ 1600 = omega arith in
+      let room : w .at + headerSize (c .cid) (c .ptype) (isNone cs) + length (c .payload) ≤ length frame = omega arith in
+      let first-free : 4 ≤ c .cid = each .0 .free in
+      let at : w .at + headerSize (c .cid) (c .ptype) (isNone cs) + length (c .payload) ≡ w .at + length octets = omega arith in
+      let one-more : w .count + 1 ≤ 64 = omega arith in
+      ap (λ (l : Bool). writing (length frame) w l (foundAt table (s .cid)) (s .cid) (s .content)) alike
+      ∙ takes (length frame) w (isNone cs) (foundAt table (s .cid)) (s .cid) (s .content) (c .ptype) (c .payload) going (rw cid at first-free)
+      (all .0 .1)
+      (all .0 .2)
+      (short c (isNone cs) (each .0))
+      one-more
+      (rw cid at most)
+      (rw cid at room)
+      ∙ ap (λ (n : ℕ). writes (shortestHeader n (c .ptype) (isNone cs) (length (c .payload)) ++ c .payload)
+      (record { at = w .at + headerSize n (c .ptype) (isNone cs) + length (c .payload); count = w .count + 1; done = isNone cs })) (sym cid)
+      ∙ ap (λ (n : ℕ). writes octets (record { at = n; count = w .count + 1; done = isNone cs })) at
+
+  next-done : next .done ≡ isNone cs
+  unfolding next
+  next-done = refl
+
+  step : fed table frame w (s ∷ ss) ≡ fed table (written frame (w .at) octets) next ss
+  unfolding fed
+  step = ap (λ (d : Writing). onwards d (s ∷ ss) w frame (fed table (leftWriting d frame (w .at)) (after d w) ss)) does
+
+  kept : length (written frame (w .at) octets) ≡ length frame
+  kept =
+      let sum : length (joined (c ∷ cs)) ≡ length octets + length (joined cs) = whole in
+      length-written frame octets (w .at) (omega arith)
+
+  few-left : next .count + length cs ≤ 64
+  unfolding next
+  few-left = omega arith
+
+  within-left : next .at + length (joined cs) ≤ 1600
+  unfolding next
+  within-left = let sum : length (joined (c ∷ cs)) ≡ length octets + length (joined cs) = whole in omega arith
+
+  inside-left : next .at + length (joined cs) ≤ length (written frame (w .at) octets)
+  unfolding next
+  inside-left = let sum : length (joined (c ∷ cs)) ≡ length octets + length (joined cs) = whole in rw kept (omega arith)
+
+  arrives : beyond next cs ≡ beyond w (c ∷ cs)
+  unfolding next
+  arrives =
+      let sum : length (joined (c ∷ cs)) ≡ length octets + length (joined cs) = whole in
+      let at : w .at + length octets + length (joined cs) ≡ w .at + length (joined (c ∷ cs)) = omega arith in
+      let count : w .count + 1 + length cs ≡ w .count + length (c ∷ cs) = omega arith in
+      ap₂ (λ (a n : ℕ). record { at = a; count = n; done = true }) at count
+
+  behind : written (written frame (w .at) octets) (next .at) (joined cs) ≡ written frame (w .at) (joined (c ∷ cs))
+  unfolding next joined octets
+  behind =
+      let sum : length (joined (c ∷ cs)) ≡ length octets + length (joined cs) = whole in
+      written-twice frame octets (joined cs) (w .at) (omega arith)
+
+made-taken : (table : List ℕ) (ss : List Sub) (cs : List joining.Content) (frame : List ℕ) (w : Writer)
+    → AllMade table ss cs
+    → Each cs
+    → w .done ≡ isNone cs
+    → w .count + length cs ≤ 64
+    → w .at + length (joined cs) ≤ 1600
+    → w .at + length (joined cs) ≤ length frame
+    → fed table frame w ss ≡ took (beyond w cs) (written frame (w .at) (joined cs))
+unfolding fed joined
+made-taken table [] [] frame w all each done few within inside =
+    let at : w .at ≡ w .at + 0 = sym (add-zero (w .at)) in
+    let count : w .count ≡ w .count + 0 = sym (add-zero (w .count)) in
+    let is : w ≡ beyond w [] =
+    ap (λ (d : Bool). record { at = w .at; count = w .count; done = d }) done
+    ∙ ap₂ (λ (a n : ℕ). record { at = a; count = n; done = true }) at count
+    in
+    ap₂ took is (none-written frame (w .at))
+made-taken table [] (c ∷ cs) frame w all each done few within inside = absurd all
+made-taken table (s ∷ ss) [] frame w all each done few within inside = absurd all
+made-taken table (s ∷ ss) (c ∷ cs) frame w all each done few within inside =
+    step table frame w s ss c cs all each done few within inside
+    ∙ made-taken table ss cs (written frame (w .at) (octets table frame w s ss c cs all each done few within inside))
+    (next table frame w s ss c cs all each done few within inside)
+    (all .1)
+    (each .1)
+    (next-done table frame w s ss c cs all each done few within inside)
+    (few-left table frame w s ss c cs all each done few within inside)
+    (within-left table frame w s ss c cs all each done few within inside)
+    (inside-left table frame w s ss c cs all each done few within inside)
+    ∙ ap₂ took (arrives table frame w s ss c cs all each done few within inside)
+    (behind table frame w s ss c cs all each done few within inside)
+
+none-done : (cs : List joining.Content) → 1 ≤ length cs → false ≡ isNone cs
+none-done [] some = absurd (omega arith)
+none-done (c ∷ cs) some = refl
+
+pub made-is-taken : MadeIsTaken
+made-is-taken table frame ss cs all fits room =
+    let most : length cs ≤ 64 = fits .most in
+    let whole : length (joined cs) ≤ 1600 = fits .whole in
+    made-taken table ss cs frame freshWriter all (fits .each) (none-done cs (fits .some)) (omega arith) (omega arith) (omega arith)
+    ∙ ap (λ (n : ℕ). took (record { at = n; count = 0 + length cs; done = true }) (written frame 0 (joined cs))) (zero-add (length (joined cs)))
+    ∙ ap (λ (n : ℕ). took (record { at = length (joined cs); count = n; done = true }) (written frame 0 (joined cs))) (zero-add (length cs))

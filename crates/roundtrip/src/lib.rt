@@ -1,0 +1,1 @@
+// Demand 2 as theorems; specs/Demand2.antt says them. No code.
