@@ -22,6 +22,10 @@ use Rattle.digits.specs.declared.layout.Digits.{Digits}
 use Rattle.digits.specs.declared.layout.DigitsRead.{DigitsRead}
 use Rattle.digits.specs.declared.layout.DigitsRead.the-variants.{Dialled, BadDigits}
 
+-- An off period without an edge: the start state, and what an unused place holds.
+abbrev pub offWindow : Window
+offWindow = record { on = false; edge = 0; code = 0 }
+
 -- A window's two octets: "Type 0 off, 1 on, others 14." Three zero bits stand before the code.
 abbrev pub windowReserved : ℕ → ℕ → Bool
 windowReserved a b = cond (ltb 1 (a / 32)) true (ltb 0 (b / 32))

@@ -5,7 +5,7 @@ use octets::Fit;
 use octets::Put;
 ghost use mathlib.Core.Path.{_≡_};
 ghost use Rattle.octets.specs.Made.{fitOf, putMade, leftMade};
-ghost use Rattle.digits.specs.Layout.{windowReserved, windowOut, windowOf, judged, digitsRead, windowWrong, levelLow, levelCode, windowFirst, windowSecond, digitsHead, digitsMade};
+ghost use Rattle.digits.specs.Layout.{offWindow, windowReserved, windowOut, windowOf, judged, digitsRead, windowWrong, levelLow, levelCode, windowFirst, windowSecond, digitsHead, digitsMade};
 ghost use Rattle.levels.specs.Level.{codeOf};
 
 // One 20 ms period: off or on with a code, and where in it the change lies, in ms.
@@ -22,6 +22,17 @@ pub struct Digits {
     pub current: Window,
     pub recent: Window,
     pub previous: Window,
+}
+
+// An off period without an edge: the start state, and what an unused place holds.
+pub(crate) fn off_window() -> Window
+    ensures { λ r. ⌜ r ≡ offWindow ⌝ }
+{
+    Window {
+        on: false,
+        edge: 0,
+        code: 0,
+    }
 }
 
 pub enum DigitsRead {
@@ -124,7 +135,7 @@ pub fn read_digits(payload: &[u8]) -> DigitsRead
 }
 
 // An edge, or the code of an on window, that its bits or its range do not take.
-fn window_wrong(w: Window) -> bool
+pub(crate) fn window_wrong(w: Window) -> bool
     ensures { λ r. ⌜ r ≡ windowWrong w ⌝ }
 {
     if 19 < w.edge {
@@ -137,7 +148,7 @@ fn window_wrong(w: Window) -> bool
 }
 
 // Whether a level is below -31.
-fn level_low(level: i8) -> bool
+pub(crate) fn level_low(level: i8) -> bool
     ensures { λ r. ⌜ r ≡ levelLow (codeOf 31 level) ⌝ }
 {
     match levels::code_of(level, 31) {
