@@ -2,3 +2,4 @@ pub mod Feeding
 pub mod RoundTrip
 pub mod Taken
 pub mod LessRoom
+pub mod Examples
