@@ -1,0 +1,4 @@
+pub mod HandingCases
+pub mod HandingTurns
+pub mod HandingInside
+pub mod Examples
