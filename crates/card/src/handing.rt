@@ -17,7 +17,7 @@ const MOST_OCTETS: usize = 1600;
 
 const MOST_SUB_FRAMES: usize = 64;
 
-// What the answer names as its source: the frame, the silence block (which is no refusal number), else the refusal number.
+// What `source` says: a part of the frame; or the silence block, by a number that is no refusal's; else the refusal number.
 pub const FROM_FRAME: u8 = refusal::SOUND;
 
 pub const FROM_SILENCE: u8 = 255;
