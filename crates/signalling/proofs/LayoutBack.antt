@@ -1,26 +1,27 @@
 -- Signalling payloads, written and read: the claims of specs/Claims.antt, and what the code stores.
 use Prim.Native.Nat.{ℕ, zero, suc, _+_, _-_, _*_, _/_, _%_, _<_, _≤_}
 use mathlib.Core.Path.{_≡_, refl, sym, ap, ap₂, subst, _∙_}
-use mathlib.Core.List.{List, [], _∷_, _++_}
+use mathlib.Core.List.{List, [], _∷_}
 use mathlib.Core.Bool.{Bool, true, false, cond}
-use mathlib.Core.Logic.{_⊎_, inl, inr, ⊎-elim}
+use mathlib.Core.Logic.{_⊎_, ⊎-elim}
 use native.Mathlib.Nat.{zero-add, not-suc-le-zero, le-of-suc-le-suc, add-zero}
 use native.Mathlib.Omega.{arith}
-use borrow.Author.Tests.{lt-ltb, le-ltb, eq-eqb, ne-eqb}
+use borrow.Author.Tests.{lt-ltb, ltb-true, eq-eqb, ne-eqb}
 use lib.Dec.{ltb, eqb}
-use lib.ListN.{length, getD, take, drop, length-drop}
-use lib.Seq.{drop-cons, ext-getD, take-all, getD-drop}
-use Rattle.octets.proofs.Order.{lt-or-le, eq-or-ne, clash, either}
+use lib.ListN.{length, getD, take, drop}
+use lib.Seq.{drop-cons, ext-getD, take-all}
+use Rattle.octets.proofs.Order.{lt-or-le, eq-or-ne, either}
 use Rattle.octets.proofs.MadeBack.{same-made, never-made}
 use Rattle.octets.specs.Octets.{Octets}
-use Rattle.octets.specs.Made.{Made, made, unmade}
+use Rattle.octets.specs.Made.{made}
 use Rattle.refusal.specs.Numbers.{sound, lengthWrong}
 use Rattle.signalling.specs.declared.layout.Signalling.{Signalling}
 use Rattle.signalling.specs.declared.layout.SignallingRead.{SignallingRead}
-use Rattle.signalling.specs.Layout.{allowed, halves, nothing, signallingRead, allAllowed, pairAt, pairs, firstOctet, firstHead, pairCut, pairsCut, signallingHead, signallingMade}
+use Rattle.signalling.specs.Layout.{allowed, halves, nothing, allAllowed, pairAt, pairs, firstOctet, pairCut, pairsCut, signallingHead, signallingMade}
 use Rattle.signalling.specs.Claims.{SignallingReadsBack, SignallingMadeAgain}
 use Rattle.signalling.proofs.LayoutCases as cases
 use Rattle.signalling.proofs.Halves as halves-of
+use Rattle.signalling.proofs.Samples.{allowed-looks, each-passes, all-pass}
 
 pub record Fitting (s : Signalling) : Type 0 where
   pub within : s .sequence .0 ≤ 127
@@ -43,26 +44,8 @@ unfolding pairs
 length-pairs zero k samples = refl
 length-pairs (suc n) k samples = ap suc (length-pairs n (suc k) samples)
 
--- each sample that was looked at is allowed
-first-allowed : (n i : ℕ) (samples : List ℕ) → allAllowed (suc n) i samples ≡ true → getD samples i 0 < 16
-unfolding allAllowed
-first-allowed n i samples e =
-    ⊎-elim (λ h. h) (λ over. clash (allAllowed (suc n) i samples) e (simp (le-ltb (getD samples i 0) 16 over)))
-    (lt-or-le (getD samples i 0) 16)
-
-others-allowed : (n i : ℕ) (samples : List ℕ) → allAllowed (suc n) i samples ≡ true → allAllowed n (suc i) samples ≡ true
-unfolding allAllowed
-others-allowed n i samples e = simp (lt-ltb (getD samples i 0) 16 (first-allowed n i samples e)) at e
-
-each-allowed : (n i : ℕ) (samples : List ℕ) → allAllowed n i samples ≡ true → (j : ℕ) → j < n → getD samples (i + j) 0 < 16
-each-allowed zero i samples e j h = absurd (not-suc-le-zero h)
-each-allowed (suc n) i samples e zero h = rw (add-zero i) (first-allowed n i samples e)
-each-allowed (suc n) i samples e (suc j) h =
-    let same : i + suc j ≡ suc i + j = omega arith in
-    rw same (each-allowed n (suc i) samples (others-allowed n i samples e) j (le-of-suc-le-suc h))
-
 pub all-small : (s : Signalling) → Fitting s → (j : ℕ) → j < 30 → getD (s .samples) j 0 < 16
-all-small s f j h = rw (zero-add j) at (each-allowed 30 0 (s .samples) (f .fair) j h)
+all-small s f j h = rw (zero-add j) at (ltb-true (getD (s .samples) (0 + j) 0) 16 (each-passes (allowed-looks (s .samples)) 30 0 (f .fair) j h))
 
 -- allowed samples fill their halves and no more
 module _ (samples : List ℕ) (small : (j : ℕ) → j < 30 → getD samples j 0 < 16) where
@@ -126,9 +109,7 @@ half-small (x ∷ l) o (suc zero) = let h : x < 256 = o 0 in omega arith
 half-small (x ∷ l) o (suc (suc j)) = half-small l (λ i. o (suc i)) j
 
 small-allowed : (n i : ℕ) (samples : List ℕ) → ((j : ℕ) → getD samples j 0 < 16) → allAllowed n i samples ≡ true
-unfolding allAllowed
-small-allowed zero i samples h = refl
-small-allowed (suc n) i samples h = simp (lt-ltb (getD samples i 0) 16 (h i)) (small-allowed n (suc i) samples h)
+small-allowed n i samples h = all-pass (allowed-looks samples) n i (λ j less. lt-ltb (getD samples (i + j) 0) 16 (h (i + j)))
 
 pair-at : (n k : ℕ) (samples : List ℕ) (j : ℕ) → j < n → getD (pairs n k samples) j 0 ≡ pairAt samples (k + j)
 unfolding pairs

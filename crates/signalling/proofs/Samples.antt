@@ -1,33 +1,67 @@
 -- Samples looked at one by one, and put into octets two by two.
-use Prim.Native.Nat.{ℕ, zero, suc, _+_, _-_, _*_, _/_, _%_, _<_, _≤_}
+use Prim.Native.Nat.{ℕ, zero, suc, _+_, _-_, _<_, _≤_}
 use mathlib.Core.Path.{_≡_, refl, sym, ap, _∙_}
-use mathlib.Core.List.{List, [], _∷_, _++_, append-nil}
+use mathlib.Core.List.{List, _∷_, append-nil}
 use mathlib.Core.Bool.{Bool, true, false, cond}
-use native.Mathlib.Nat.{add-comm, not-suc-le-zero, le-of-suc-le-suc, add-zero}
+use native.Mathlib.Nat.{not-suc-le-zero, le-of-suc-le-suc, add-zero}
 use native.Mathlib.Omega.{arith}
-use borrow.Author.Tests.{lt-ltb, le-ltb}
-use lib.ListN.{length, getD, take, drop, set, replicate}
+use lib.ListN.{length, getD, take, set, replicate}
 use lib.Seq.{paste, paste-zero, paste-suc, take-all}
+use lib.Dec.{eqb}
+use Rattle.octets.proofs.Order.{clash, either}
 use Rattle.signalling.specs.Layout.{allowed, allAllowed, pairCut, pairsCut}
+use Rattle.signalling.specs.Sender.{allEqual}
 
--- after i turns what is left to be looked at decides
-module _ (samples : List ℕ) (whole : Bool) (i : ℕ) (less : i < 30) (is : whole ≡ allAllowed (30 - i) i samples) where
-  one-less : 30 - i ≡ suc (30 - (i + 1))
-  one-less = omega arith
+-- Samples looked at one by one: of n samples, after i turns what is left to be looked at decides.
+pub record Looks (test : ℕ → Bool) (look : ℕ → ℕ → Bool) : Type 0 where
+  pub none : (i : ℕ) → look 0 i ≡ true
+  pub more : (n i : ℕ) → look (suc n) i ≡ cond (test i) (look n (suc i)) false
 
-  pub goes-on : getD samples i 0 < 16 → whole ≡ allAllowed (30 - (i + 1)) (i + 1) samples
-  unfolding allAllowed
-  goes-on h =
-      let next : i + 1 ≡ suc i = omega arith in
-      is ∙ rw (one-less, next) (simp (lt-ltb (getD samples i 0) 16 h))
-
-  pub stops : 16 ≤ getD samples i 0 → false ≡ whole
-  unfolding allAllowed
-  stops h = sym (is ∙ rw one-less (simp (le-ltb (getD samples i 0) 16 h)))
-
-pub all-seen : (samples : List ℕ) (whole : Bool) (i : ℕ) → 30 ≤ i → whole ≡ allAllowed (30 - i) i samples → true ≡ whole
+pub allowed-looks : (samples : List ℕ) → Looks (λ (i : ℕ). allowed (getD samples i 0)) (λ (n i : ℕ). allAllowed n i samples)
 unfolding allAllowed
-all-seen samples whole i most is = let none : 30 - i ≡ 0 = omega arith in sym (is ∙ rw none)
+allowed-looks samples = record { none = λ i. refl; more = λ n i. refl }
+
+pub equal-looks : (sample : ℕ) (samples : List ℕ) → Looks (λ (i : ℕ). eqb sample (getD samples i 0)) (λ (n i : ℕ). allEqual sample n i samples)
+unfolding allEqual
+equal-looks sample samples = record { none = λ i. refl; more = λ n i. refl }
+
+module _ {test : ℕ → Bool} {look : ℕ → ℕ → Bool} (looks : Looks test look) (whole : Bool) (n i : ℕ) (is : whole ≡ look (n - i) i) where
+  module _ (left : i < n) where
+    next : whole ≡ cond (test i) (look (n - (i + 1)) (i + 1)) false
+    next =
+        let one-less : n - i ≡ suc (n - (i + 1)) = omega arith in
+        let one-more : i + 1 ≡ suc i = omega arith in
+        is ∙ rw (one-less, one-more) (looks .more (n - suc i) i)
+
+    pub goes-on : test i ≡ true → whole ≡ look (n - (i + 1)) (i + 1)
+    goes-on h = next ∙ rw h
+
+    pub stops : test i ≡ false → false ≡ whole
+    stops h = sym (next ∙ rw h)
+
+  pub all-seen : n ≤ i → true ≡ whole
+  all-seen most = let none : n - i ≡ 0 = omega arith in sym (is ∙ rw none (looks .none i))
+
+-- all pass exactly when each does
+module _ {test : ℕ → Bool} {look : ℕ → ℕ → Bool} (looks : Looks test look) where
+  first-passes : (n i : ℕ) → look (suc n) i ≡ true → test i ≡ true
+  first-passes n i e = either (λ yes. yes) (λ no. clash (look (suc n) i) e (looks .more n i ∙ rw no)) (test i) refl
+
+  others-pass : (n i : ℕ) → look (suc n) i ≡ true → look n (suc i) ≡ true
+  others-pass n i e = sym (looks .more n i ∙ rw (first-passes n i e)) ∙ e
+
+  pub each-passes : (n i : ℕ) → look n i ≡ true → (j : ℕ) → j < n → test (i + j) ≡ true
+  each-passes zero i e j h = absurd (not-suc-le-zero h)
+  each-passes (suc n) i e zero h = rw (add-zero i) (first-passes n i e)
+  each-passes (suc n) i e (suc j) h =
+      let next : i + suc j ≡ suc i + j = omega arith in
+      rw next (each-passes n (suc i) (others-pass n i e) j (le-of-suc-le-suc h))
+
+  pub all-pass : (n i : ℕ) → ((j : ℕ) → j < n → test (i + j) ≡ true) → look n i ≡ true
+  all-pass zero i h = looks .none i
+  all-pass (suc n) i h =
+      let first : test i ≡ true = rw (add-zero i) at (h 0 (omega arith)) in
+      looks .more n i ∙ rw first (all-pass n (suc i) (λ j less. let next : suc i + j ≡ i + suc j = omega arith in rw next (h (suc j) (omega arith))))
 
 -- the octets of the pairs, by their places
 pub length-pairs : (n k : ℕ) (samples : List ℕ) → length (pairsCut n k samples) ≡ n

@@ -5,7 +5,7 @@ use octets::Put;
 ghost use mathlib.Core.Path.{_≡_};
 ghost use lib.ListN.{length, drop};
 ghost use Rattle.octets.specs.Made.{fitOf, putMade, leftMade};
-ghost use Rattle.signalling.specs.Layout.{halves, signallingRead, allAllowed, firstHead, signallingHead, signallingMade};
+ghost use Rattle.signalling.specs.Layout.{halves, allowed, signallingRead, allAllowed, firstHead, signallingHead, signallingMade};
 
 // A signalling payload: the alarm bit, and 30 samples of four bits, oldest first.
 pub struct Signalling {
@@ -61,13 +61,21 @@ pub fn read_signalling(payload: &[u8]) -> SignallingRead
     }
 }
 
+// Whether a sample is allowed.
+pub(crate) fn allowed(sample: u8) -> bool
+    ensures { λ r. ⌜ r ≡ allowed sample ⌝ }
+{
+    sample < 16
+}
+
 // Whether all samples are allowed.
-fn all_allowed(samples: [u8; 30]) -> bool
-    ensures { λ r. ⌜ r ≡ allAllowed 30 0 samples ⌝ }
+pub(crate) fn all_allowed(samples: &[u8]) -> bool
+    ensures { λ r. ⌜ r ≡ allAllowed (length (now (samples .entry))) 0 (now (samples .entry)) ⌝ }
 {
     let mut i: usize = 0;
-    while i < 30 {
-        if 16 <= samples[i] {
+    while i < samples.len() {
+        let sample = samples[i];
+        if !allowed(sample) {
             return false;
         }
         i += 1;
@@ -83,7 +91,7 @@ pub fn fit_signalling(signalling: Signalling) -> Fit
         return Fit::Unfit(refusal::VALUE_OUT_OF_RANGE);
     }
     let samples = signalling.samples;
-    if all_allowed(samples) {
+    if all_allowed(&samples) {
         return Fit::Octets(16);
     }
     Fit::Unfit(refusal::VALUE_OUT_OF_RANGE)
