@@ -1,9 +1,10 @@
--- The starred bench examples 1 to 9, 11 and 12 (document 01, "Bench examples"): what the definitions give, and what is due. Proved in
+-- The starred bench examples 1 to 12 (document 01, "Bench examples"): what the definitions give, and what is due. Proved in
 -- proofs/Hold.antt.
 use Prim.Native.Nat.{ℕ}
 use mathlib.Core.Path.{_≡_}
 use mathlib.Core.List.{List, [], _∷_, _++_, map}
 use mathlib.Core.Bool.{true, false}
+use lib.ListN.{replicate}
 use lib.IntN.{ℤ, pos, negsuc}
 use Rattle.octets.specs.Made.{Made, made, unmade}
 use Rattle.frame.specs.Opening.{opening}
@@ -11,6 +12,8 @@ use Rattle.frame.specs.Joining.{Content, shortestHeader, joined}
 use Rattle.framing.specs.Claims.{list}
 use Rattle.digits.specs.declared.layout.Digits.{Digits}
 use Rattle.digits.specs.Layout.{digitsMade}
+use Rattle.signalling.specs.declared.receiver.Received.{Received}
+use Rattle.signalling.specs.Receiver.{freshReceiver, received}
 use Rattle.data.specs.Data.{dataMade}
 use Rattle.fax.specs.declared.Stamp.the-variants.{Stamped}
 use Rattle.fax.specs.declared.Command.the-variants.{On}
@@ -46,6 +49,16 @@ quiet level =
       previous = record { on = false; edge = 0; code = 0 };
     }
 
+-- what a fresh signalling receiver answers to a second payload, by the two numbers: how many periods are filled and carried
+abbrev pub numbered : ℕ → List ℕ
+numbered sequence = sequence ∷ replicate 15 0
+
+abbrev pub second : ℕ → ℕ → Received
+second one two = received (received freshReceiver (numbered one) .receiver) (numbered two)
+
+abbrev pub replayed : ℕ → ℕ → List ℕ
+replayed one two = second one two .fills ∷ second one two .carried ∷ []
+
 unfoldable pub examples : List Example
 examples =
     record { bench = 1; given = checked []; due = 1 ∷ [] }
@@ -62,6 +75,8 @@ examples =
     ∷ record { bench = 9; given = written (digitsMade (quiet (pos 3))); due = 0 ∷ 0 ∷ 0 ∷ 0 ∷ 0 ∷ 0 ∷ 0 ∷ 0 ∷ 0 ∷ [] }
     ∷ record { bench = 9; given = written (digitsMade (quiet (negsuc 30))); due = 0 ∷ 0 ∷ 31 ∷ 0 ∷ 0 ∷ 0 ∷ 0 ∷ 0 ∷ 0 ∷ [] }
     ∷ record { bench = 9; given = written (digitsMade (quiet (negsuc 31))); due = 15 ∷ [] }
+    ∷ record { bench = 10; given = replayed 126 1; due = 0 ∷ 3 ∷ [] }
+    ∷ record { bench = 10; given = replayed 126 2; due = 1 ∷ 3 ∷ [] }
     ∷ record { bench = 11; given = written (dataMade true true 300 (0xaa ∷ [])); due = 0 ∷ 0xc1 ∷ 0x2c ∷ 0xaa ∷ [] }
     ∷ record {
       bench = 12;
