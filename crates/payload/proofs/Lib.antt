@@ -1,3 +1,4 @@
 pub mod LayoutCases
 pub mod CheckCases
 pub mod ContentBack
+pub mod ToneCases

@@ -1,3 +1,4 @@
 pub mod Layout
 pub mod Content
 pub mod Claims
+pub mod Tone
