@@ -1,0 +1,10 @@
+pub mod Steps
+pub mod DigitRule
+pub mod DigitSender
+pub mod Digits
+pub mod DigitRuns
+pub mod Tens
+pub mod SignallingRule
+pub mod SignallingSender
+pub mod Signalling
+pub mod SignallingRuns

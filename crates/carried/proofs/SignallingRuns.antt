@@ -1,0 +1,198 @@
+-- The runs of specs/SignallingRuns.antt.
+use Prim.Native.Nat.{ℕ, zero, suc, _+_, _-_, _<_, _≤_}
+use mathlib.Core.Path.{_≡_, refl, sym, ap, subst, _∙_}
+use mathlib.Core.List.{List, [], _∷_, _++_}
+use mathlib.Core.Bool.{true, false}
+use mathlib.Core.Option.{some}
+use native.Mathlib.Omega.{arith}
+use borrow.Author.Tests.{lt-ltb, eq-eqb, eqb-true}
+use lib.Dec.{eqb}
+use lib.ListN.{length, replicate}
+use Rattle.refusal.specs.Numbers.{sound}
+use Rattle.octets.proofs.Order.{either}
+use Rattle.signalling.specs.declared.sender.Entry.{Entry}
+use Rattle.signalling.specs.declared.sender.Sender.{Sender}
+use Rattle.signalling.specs.declared.sender.Sent.{Sent}
+use Rattle.signalling.specs.Layout.{allAllowed}
+use Rattle.signalling.specs.Sender.{started, allEqual, isQuiet, runAfter, goingOut, nothingDue}
+use Rattle.signalling.specs.Sender as defined
+use Rattle.signalling.specs.Receiver.{freshReceiver}
+use Rattle.replay.specs.Periods.{pay, range, Near}
+use Rattle.replay.specs.Claims.{Replays}
+use Rattle.replay.specs.Examples.{picked}
+use Rattle.replay.proofs.Sublists.{Each, each-some, picked-some, picked-map, Two, just-two}
+use Rattle.replay.proofs.Examples.{one-more-fails}
+use Rattle.carried.specs.Emissions.{Emission}
+use Rattle.carried.specs.Signalling.{emitted, numberAfter, emissions, periodOf, arrivals, marks, TenEach}
+use Rattle.carried.specs.SignallingRuns.{still, pulse, line, sent, first, second, far, Runs, Sharp}
+use Rattle.carried.proofs.SignallingRule.{signallingReceiver, brings, by-rule, record-is}
+use Rattle.carried.proofs.SignallingSender.{Brings, all-bring, onSent, onOther, is-loud, is-early, is-resting, is-repeat, raised}
+
+-- the numbers that an entry adds, by its answer
+module _ (s : Sender) (n : ℕ) (e : Entry) (es : List Entry) where
+  on-answer : (t : Sent) → defined.sent s e ≡ t → arrivals (emissions s n (e ∷ es)) ≡ arrivals (emitted s n t ++ emissions (t .sender) (numberAfter s n t) es)
+  on-answer t is = ap (λ (x : Sent). arrivals (emitted s n x ++ emissions (x .sender) (numberAfter s n x) es)) is
+
+  sends : defined.sent s e ≡ goingOut (e .alarm) (onSent s e) → arrivals (emissions s n (e ∷ es)) ≡ n ∷ arrivals (emissions (onSent s e) (suc n) es)
+  sends is = on-answer (goingOut (e .alarm) (onSent s e)) is ∙ rw (raised (s .last .0)) refl
+
+  rests : defined.sent s e ≡ nothingDue sound (onOther s e) → arrivals (emissions s n (e ∷ es)) ≡ arrivals (emissions (onOther s e) n es)
+  rests is = on-answer (nothingDue sound (onOther s e)) is
+
+  repeated : defined.sent s e ≡ goingOut (e .alarm) (onOther s e) → arrivals (emissions s n (e ∷ es)) ≡ (n - 1) ∷ arrivals (emissions (onOther s e) n es)
+  repeated is = on-answer (goingOut (e .alarm) (onOther s e)) is ∙ rw (eq-eqb (s .last .0) (s .last .0) refl) refl
+
+-- a pulse is quiet nowhere
+never-quiet : (s : Sender) → isQuiet s pulse ≡ false
+unfolding allEqual
+never-quiet s =
+    either
+    (λ (e : eqb (s .before) 1 ≡ true). let one : s .before ≡ 1 = eqb-true (s .before) 1 e in rw one refl)
+    (λ (e : eqb (s .before) 1 ≡ false). rw e refl)
+    (eqb (s .before) 1)
+    refl
+
+fair-pulse : allAllowed 10 0 (pulse .samples) ≡ true
+unfolding allAllowed
+fair-pulse = refl
+
+fair-still : allAllowed 10 0 (still .samples) ≡ true
+unfolding allAllowed
+fair-still = refl
+
+pulses : (s : Sender) (n m : ℕ) → arrivals (emissions s n (replicate m pulse)) ≡ range n m
+pulses s n zero = refl
+pulses s n (suc m) =
+    sends s n pulse (replicate m pulse) (is-loud s pulse fair-pulse (never-quiet s))
+    ∙ ap {B = List ℕ} (λ ns. n ∷ ns) (pulses (onSent s pulse) (suc n) m)
+
+-- a run of quiet periods, of which q went before
+pub record Quiet (s : Sender) (q : ℕ) : Type 0 where
+  pub before : s .before ≡ 0
+  pub run : s .quiet ≡ q
+
+is-still : (s : Sender) → s .before ≡ 0 → isQuiet s still ≡ true
+unfolding allEqual
+is-still s e = rw e refl
+
+run-on : (s : Sender) (q : ℕ) → Quiet s q → q < 274 → runAfter (isQuiet s still) (s .quiet) ≡ q + 1
+run-on s q quiet less =
+    let test : isQuiet s still ≡ true = is-still s (quiet .before) in
+    rw (test, quiet .run, lt-ltb q 274 less) refl
+
+sent-still : (s : Sender) (q : ℕ) → Quiet s q → q < 274 → Quiet (onSent s still) (q + 1)
+sent-still s q quiet less = record { before = refl; run = run-on s q quiet less }
+
+other-still : (s : Sender) (q : ℕ) → Quiet s q → q < 274 → Quiet (onOther s still) (q + 1)
+other-still s q quiet less = record { before = refl; run = run-on s q quiet less }
+
+-- m more of the first 25
+early : (m : ℕ) (s : Sender) (n q : ℕ) (rest : List Entry) (ns : List ℕ)
+    → Quiet s q
+    → q + m ≤ 25
+    → ((t : Sender) → Quiet t (q + m) → arrivals (emissions t (n + m) rest) ≡ ns)
+    → arrivals (emissions s n (replicate m still ++ rest)) ≡ range n m ++ ns
+early zero s n q rest ns quiet few next =
+    let here : q + 0 ≡ q = omega arith in
+    let same : n + 0 ≡ n = omega arith in
+    ap (λ (m : ℕ). arrivals (emissions s m rest)) (sym same) ∙ next s (rw here quiet)
+early (suc m) s n q rest ns quiet few next =
+    let run : s .quiet ≡ q = quiet .run in
+    let turn : q + 1 + m ≡ q + suc m = omega arith in
+    let count : suc n + m ≡ n + suc m = omega arith in
+    sends s n still (replicate m still ++ rest) (is-early s still fair-still (is-still s (quiet .before)) (omega arith))
+    ∙ ap {B = List ℕ} (λ ks. n ∷ ks)
+    (early m (onSent s still) (suc n) (q + 1) rest ns (sent-still s q quiet (omega arith)) (omega arith)
+    (λ t more. ap (λ (k : ℕ). arrivals (emissions t k rest)) count ∙ next t (rw (← turn) more)))
+
+-- m more of those that are not sent
+unsent : (m : ℕ) (s : Sender) (n q : ℕ) (rest : List Entry) (ns : List ℕ)
+    → Quiet s q
+    → 25 ≤ q
+    → q + m ≤ 274
+    → ((t : Sender) → Quiet t (q + m) → arrivals (emissions t n rest) ≡ ns)
+    → arrivals (emissions s n (replicate m still ++ rest)) ≡ ns
+unsent zero s n q rest ns quiet late few next = let here : q + 0 ≡ q = omega arith in next s (rw here quiet)
+unsent (suc m) s n q rest ns quiet late few next =
+    let run : s .quiet ≡ q = quiet .run in
+    let turn : q + 1 + m ≡ q + suc m = omega arith in
+    rests s n still (replicate m still ++ rest) (is-resting s still fair-still (is-still s (quiet .before)) (omega arith) (omega arith))
+    ∙ unsent m (onOther s still) n (q + 1) rest ns (other-still s q quiet (omega arith)) (omega arith) (omega arith) (λ t more. next t (rw (← turn) more))
+
+-- the numbers of the line: 0 to 24, the repeat, 25 to 184
+abbrev numbers : List ℕ
+numbers = range 0 25 ++ 24 ∷ range 25 160
+
+all-numbers : arrivals sent ≡ numbers
+all-numbers =
+    early 25 (started 0 .sender) 0 0 (replicate 249 still ++ still ∷ replicate 160 pulse) (24 ∷ range 25 160) (record { before = refl; run = refl }) (omega arith)
+    (λ t quiet.
+    unsent 249 t 25 25 (still ∷ replicate 160 pulse) (24 ∷ range 25 160) quiet (omega arith) (omega arith)
+    (λ u quiet2.
+    let run : u .quiet ≡ 274 = quiet2 .run in
+    repeated u 25 still (replicate 160 pulse) (is-repeat u still fair-still (is-still u (quiet2 .before)) (omega arith))
+    ∙ ap {B = List ℕ} (λ ks. 24 ∷ ks) (pulses (onOther u still) 25 160)))
+
+picked-numbers : (gs : List ℕ) → arrivals (picked gs sent) ≡ picked gs numbers
+picked-numbers gs = picked-map (λ (p : Emission). p .number) gs sent ∙ ap (picked gs) all-numbers
+
+second-numbers : arrivals second ≡ 0 ∷ 24 ∷ 24 ∷ 151 ∷ 153 ∷ []
+second-numbers = picked-numbers (0 ∷ 23 ∷ 0 ∷ 126 ∷ 1 ∷ [])
+
+first-numbers : arrivals first ≡ 24 ∷ 151 ∷ []
+first-numbers = picked-map (λ (p : Emission). p .number) (2 ∷ 0 ∷ []) second ∙ ap (picked (2 ∷ 0 ∷ [])) second-numbers
+
+abbrev numberOf : Emission → ℕ
+numberOf p = p .number
+
+ten-of : (m : ℕ) (e : Entry) (rest : List Entry) → length (e .samples) ≡ 10 → TenEach rest → TenEach (replicate m e ++ rest)
+ten-of zero e rest ten each = each
+ten-of (suc m) e rest ten each = (ten, ten-of m e rest ten each)
+
+ten-pulses : (m : ℕ) → TenEach (replicate m pulse)
+ten-pulses zero = tt
+ten-pulses (suc m) = (refl, ten-pulses m)
+
+ten-each : TenEach line
+ten-each = ten-of 275 still (replicate 160 pulse) refl (ten-pulses 160)
+
+pub runs : Runs
+runs =
+    record {
+      given =
+          record {
+            begins = refl;
+            ten = ten-each;
+            some = picked-some (0 ∷ 23 ∷ 0 ∷ 126 ∷ 1 ∷ []) sent;
+            more = picked-some (2 ∷ 0 ∷ []) second;
+            near = subst (Near 127) (sym first-numbers) (omega arith, tt);
+            near2 = subst (Near 127) (sym second-numbers) (omega arith, (omega arith, (omega arith, (omega arith, tt))));
+          };
+      first-is = first-numbers;
+      second-is = second-numbers;
+    }
+
+-- two payloads of the sender, 128 apart
+apart-fails : (S : ℕ → List ℕ) (ps : List Emission) → Each (Brings S) ps → Two numberOf ps 0 128 → Replays S (0 ∷ 128 ∷ []) (marks freshReceiver ps) → ⊥
+apart-fails S ps each t replays =
+    let p = t .one in
+    let q = t .two in
+    let both : Each (Brings S) (p ∷ q ∷ []) = subst (Each (Brings S)) (t .are) each in
+    one-more-fails (List ℕ) 7 signallingReceiver brings S freshReceiver p q 0 by-rule refl
+    (both .0 ∙ ap (λ (n : ℕ). some (pay 7 S n)) (t .is-a))
+    (both .1 .0 ∙ ap (λ (n : ℕ). some (pay 7 S n)) (t .is-b))
+    (subst (Replays S (0 ∷ 128 ∷ [])) (ap (marks freshReceiver) (t .are) ∙ sym (record-is freshReceiver (p ∷ q ∷ []))) replays)
+
+pub sharp : Sharp
+sharp =
+    let some = picked-some (0 ∷ 128 ∷ []) sent in
+    let is : arrivals far ≡ 0 ∷ 128 ∷ [] = picked-numbers (0 ∷ 128 ∷ []) in
+    let S = periodOf 0 line in
+    record {
+      some = some;
+      far-is = is;
+      fails =
+          λ replays.
+          apart-fails S far (each-some (Brings S) far sent some (all-bring 0 line refl ten-each)) (just-two numberOf far 0 128 is)
+          (subst (λ (ns : List ℕ). Replays S ns (marks freshReceiver far)) is replays);
+    }

@@ -1,0 +1,16 @@
+-- What leaves a sender.
+use Prim.Native.Nat.{ℕ}
+use mathlib.Core.List.{List, []}
+use Rattle.octets.specs.Made.{Made, made, unmade}
+
+-- A payload as it leaves: the number of its period, counted as sent, from 0; and its octets. A static repeat has the number of
+-- the payload it repeats.
+pub record Emission : Type 0 where
+  pub number : ℕ
+  pub octets : List ℕ
+
+-- The octets that a writer makes of a content; none where it refuses, which a sent payload never is (AllReadsBack of
+-- digits/specs/SenderClaims.antt, SentReadsBack of signalling/specs/Claims.antt).
+abbrev pub octetsOf : Made → List ℕ
+octetsOf (made octets) = octets
+octetsOf (unmade refusal) = []

@@ -1,0 +1,5 @@
+pub mod Emissions
+pub mod Digits
+pub mod DigitRuns
+pub mod Signalling
+pub mod SignallingRuns

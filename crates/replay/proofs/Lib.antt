@@ -1,0 +1,5 @@
+pub mod Ranges
+pub mod Sublists
+pub mod Replay
+pub mod Examples
+pub mod Wrong

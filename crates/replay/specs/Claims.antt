@@ -1,0 +1,118 @@
+-- The replay theorem, once over the width k and the kind A of a period: what a receiver that goes by the rule of Rule.antt has
+-- in its record when payloads of one sender arrive (document 01, "Receivers"; demand 3). `Replay` says it of one receiver,
+-- `TwoReceivers` of two. Proved in proofs/Replay.antt.
+use Prim.Native.Nat.{ℕ, _%_, _^_, _<_}
+use mathlib.Core.Path.{_≡_}
+use mathlib.Core.List.{List, [], _∷_, _++_, map}
+use mathlib.Core.Bool.{Bool, true, false}
+use mathlib.Core.Option.{Option, none, some}
+use lib.ListN.{length, replicate}
+use Rattle.counts.specs.Round.{step}
+use Rattle.replay.specs.Rule.{stepTaken, fillCount, newest}
+use Rattle.replay.specs.Periods.{Payload, pay, Mark, filled, carried, told, heldAt, cell, range, firstOf, spanOf, Rising, Near, Sublist}
+
+-- A receiver: whether it has heard a payload, the last sequence, and what an event (a payload, or anything else) appends to
+-- its record and leaves as its state. A state may hold more than these two.
+pub record Receiver (A : Type 0) : Type 1 where
+  pub State : Type 0
+  pub Event : Type 0
+  pub heard : State → Bool
+  pub last : State → ℕ
+  pub appends : State → Event → List (Mark A)
+  pub after : State → Event → State
+
+-- The record: what the events append, one after the other.
+abbrev pub recordOf : {A : Type 0} (r : Receiver A) → r .State → List (r .Event) → List (Mark A)
+recordOf r s [] = []
+recordOf r s (e ∷ es) = r .appends s e ++ recordOf r (r .after s e) es
+
+-- What the rule appends at a step: filled periods, then the newest windows, marked carried.
+abbrev pub byStep : {A : Type 0} → ℕ → A → List A → List (Mark A)
+byStep step fill windows = replicate (fillCount step) (filled fill) ++ map carried (newest step windows)
+
+-- A payload is taken by the rule, with any fill content. The sequence is compared round the width.
+pub record Takes {A : Type 0} (k : ℕ) (r : Receiver A) (s : r .State) (e : r .Event) (p : Payload A) : Type 0 where
+  pub fill : A
+  pub appends : r .appends s e ≡ byStep (stepTaken (r .heard s) (step k (r .last s) (p .number))) fill (p .windows)
+  pub heard : r .heard (r .after s e) ≡ true
+  pub last : r .last (r .after s e) % 2 ^ k ≡ p .number % 2 ^ k
+
+-- Anything else appends nothing and leaves the sequence; the rest of the state may change.
+pub record Passes {A : Type 0} (k : ℕ) (r : Receiver A) (s : r .State) (e : r .Event) : Type 0 where
+  pub appends : r .appends s e ≡ []
+  pub heard : r .heard (r .after s e) ≡ r .heard s
+  pub last : r .last (r .after s e) % 2 ^ k ≡ r .last s % 2 ^ k
+
+abbrev pub Acts : {A : Type 0} (k : ℕ) (r : Receiver A) → r .State → r .Event → Option (Payload A) → Type 0
+Acts k r s e none = Passes k r s e
+Acts k r s e (some p) = Takes k r s e p
+
+-- A receiver goes by the rule, where `brings` tells the payload that an event brings, if any.
+abbrev pub ByRule : {A : Type 0} (k : ℕ) (r : Receiver A) → (r .Event → Option (Payload A)) → Type 0
+ByRule k r brings = (s : r .State) (e : r .Event) → Acts k r s e (brings e)
+
+-- the payloads that some events bring
+abbrev pub joinedTo : {A : Type 0} → Option A → List A → List A
+joinedTo none ps = ps
+joinedTo (some p) ps = p ∷ ps
+
+abbrev pub broughtBy : {E P : Type 0} → (E → Option P) → List E → List P
+broughtBy brings [] = []
+broughtBy brings (e ∷ es) = joinedTo (brings e) (broughtBy brings es)
+
+-- A record as the sender's periods S and the arrivals demand it: as long as from two periods before the first arrival to the
+-- last; and each period of the sender is marked carried exactly when its own payload or one of the next two arrived, and then
+-- holds what the sender put there. A period outside the record is marked nothing, and none of those payloads arrived.
+pub record Replays {A : Type 0} (S : ℕ → A) (arrivals : List ℕ) (marks : List (Mark A)) : Type 0 where
+  pub long : length marks ≡ spanOf arrivals
+  pub whole : map told marks ≡ map (cell S arrivals) (range (firstOf arrivals) (spanOf arrivals))
+  pub place : (j : ℕ) → heldAt (firstOf arrivals) marks j ≡ cell S arrivals j
+
+-- A gap that the step still tells.
+abbrev pub Told : ℕ → ℕ → Type 0
+Told k gap = gap < 2 ^ k
+
+-- What holds of a sender and a fresh receiver, with any events in between that bring no payload.
+abbrev pub Replay : Type 1
+Replay =
+    (A : Type 0) (k : ℕ) (r : Receiver A) (brings : r .Event → Option (Payload A)) (S : ℕ → A) (s : r .State) (es : List (r .Event)) (gap : ℕ) (arrivals : List ℕ)
+    → ByRule k r brings
+    → r .heard s ≡ false
+    → broughtBy brings es ≡ map (pay k S) arrivals
+    → Told k gap
+    → Rising 0 arrivals
+    → Near gap arrivals
+    → Replays S arrivals (recordOf r s es)
+
+-- "whatever the first marks carried, the second marks carried with the same content"
+abbrev pub Keeps : {A : Type 0} → List ℕ → List (Mark A) → List ℕ → List (Mark A) → Type 0
+Keeps {A} arrivals marks arrivals2 marks2 = (j : ℕ) (a : A) → heldAt (firstOf arrivals) marks j ≡ some a → heldAt (firstOf arrivals2) marks2 j ≡ some a
+
+abbrev pub SecondKeeps : Type 1
+SecondKeeps =
+    (A : Type 0) (S : ℕ → A) (arrivals arrivals2 : List ℕ) (marks marks2 : List (Mark A))
+    → Sublist arrivals arrivals2
+    → Replays S arrivals marks
+    → Replays S arrivals2 marks2
+    → Keeps arrivals marks arrivals2 marks2
+
+-- Demand 3 of two receivers: each replays, and the second keeps what the first has.
+pub record BothReplay {A : Type 0} (S : ℕ → A) (arrivals : List ℕ) (marks : List (Mark A)) (arrivals2 : List ℕ) (marks2 : List (Mark A)) : Type 0 where
+  pub first : Replays S arrivals marks
+  pub second : Replays S arrivals2 marks2
+  pub keeps : Keeps arrivals marks arrivals2 marks2
+
+-- Two fresh receivers, the second of which gets at least all that the first gets.
+abbrev pub TwoReceivers : Type 1
+TwoReceivers =
+    (A : Type 0) (k : ℕ) (r : Receiver A) (brings : r .Event → Option (Payload A)) (S : ℕ → A) (s : r .State) (es es2 : List (r .Event)) (gap : ℕ) (arrivals arrivals2 : List ℕ)
+    → ByRule k r brings
+    → r .heard s ≡ false
+    → Told k gap
+    → broughtBy brings es ≡ map (pay k S) arrivals
+    → broughtBy brings es2 ≡ map (pay k S) arrivals2
+    → Rising 0 arrivals2
+    → Sublist arrivals arrivals2
+    → Near gap arrivals
+    → Near gap arrivals2
+    → BothReplay S arrivals (recordOf r s es) arrivals2 (recordOf r s es2)

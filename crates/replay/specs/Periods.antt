@@ -1,0 +1,80 @@
+-- Periods and arrivals by number. The periods of a sender are S: "Periods are counted as sent, two of the start state before
+-- them", so S 0 and S 1 are the start state, and the payload number i, from 0, has the windows S i, S (i + 1), S (i + 2), oldest
+-- first. Its own period is S (i + 2); "two periods before" it is S i.
+use Prim.Native.Nat.{ℕ, zero, suc, _+_, _-_, _%_, _^_, _≤_}
+use mathlib.Core.List.{List, [], _∷_, map}
+use mathlib.Core.Bool.{Bool, true, false, cond}
+use mathlib.Core.Option.{Option, none, some}
+use lib.Dec.{ltb}
+use lib.ListN.{getD}
+
+-- What a payload brings: its sequence, and its three windows, oldest first.
+pub record Payload (A : Type 0) : Type 0 where
+  pub number : ℕ
+  pub windows : List A
+
+-- The payload number i of a sender whose periods are S, with a sequence of k bits.
+abbrev pub pay : {A : Type 0} → ℕ → (ℕ → A) → ℕ → Payload A
+pay k S i = record { number = i % 2 ^ k; windows = S i ∷ S (i + 1) ∷ S (i + 2) ∷ [] }
+
+-- A period of a receiver's record.
+pub data Mark (A : Type 0) : Type 0 where
+  filled : A → Mark A
+  carried : A → Mark A
+
+-- what is marked carried
+abbrev pub told : {A : Type 0} → Mark A → Option A
+told (filled a) = none
+told (carried a) = some a
+
+-- The content that a record marks carried for the period j, where the record begins with the period `first`.
+abbrev pub heldAt : {A : Type 0} → ℕ → List (Mark A) → ℕ → Option A
+heldAt first marks j = cond (ltb j first) none (getD (map told marks) (j - first) none)
+
+-- Arrivals are the numbers of the payloads that arrive, in their order. Of the period j "its own payload or one of the next
+-- two arrived": the payload j - 2, j - 1 or j, that is, a payload a with a ≤ j ≤ a + 2.
+abbrev pub covered : List ℕ → ℕ → Bool
+covered [] j = false
+covered (a ∷ more) j = cond (ltb j a) (covered more j) (cond (ltb (a + 2) j) (covered more j) true)
+
+-- "carried exactly when .., and then holds what the sender put there"
+abbrev pub cell : {A : Type 0} → (ℕ → A) → List ℕ → ℕ → Option A
+cell S arrivals j = cond (covered arrivals j) (some (S j)) none
+
+-- n numbers from s on
+abbrev pub range : ℕ → ℕ → List ℕ
+range s zero = []
+range s (suc n) = s ∷ range (suc s) n
+
+abbrev pub firstOf : List ℕ → ℕ
+firstOf [] = 0
+firstOf (a ∷ more) = a
+
+abbrev pub lastFrom : ℕ → List ℕ → ℕ
+lastFrom a [] = a
+lastFrom a (b ∷ bs) = lastFrom b bs
+
+-- How many periods there are "From two periods before a receiver's first arrival to its last".
+abbrev pub spanOf : List ℕ → ℕ
+spanOf [] = 0
+spanOf (a ∷ more) = lastFrom a more - a + 3
+
+-- "No two successive arrivals .. are more than" `gap` "periods apart", where a came before these; they are in order.
+abbrev pub NearFrom : ℕ → ℕ → List ℕ → Type 0
+NearFrom gap a [] = Unit
+NearFrom gap a (b ∷ bs) = (b ≤ a + gap) × NearFrom gap b bs
+
+abbrev pub Near : ℕ → List ℕ → Type 0
+Near gap [] = Unit
+Near gap (a ∷ more) = NearFrom gap a more
+
+-- In order, from a number on. A static repeat counts as the payload it repeats, so a number may come again.
+abbrev pub Rising : ℕ → List ℕ → Type 0
+Rising a [] = Unit
+Rising a (b ∷ bs) = (a ≤ b) × Rising b bs
+
+-- Some of a list, in its order.
+pub data Sublist {A : Type 0} : List A → List A → Type 0 where
+  none-left : Sublist [] []
+  left-out : {x : A} {xs ys : List A} → Sublist xs ys → Sublist xs (x ∷ ys)
+  taken : {x : A} {xs ys : List A} → Sublist xs ys → Sublist (x ∷ xs) (x ∷ ys)
