@@ -16,7 +16,7 @@ use Rattle.digits.specs.declared.receiver.Receiver.{Receiver}
 use Rattle.digits.specs.declared.receiver.Received.{Received}
 use Rattle.digits.specs.Layout.{offWindow, digitsMade}
 use Rattle.digits.specs.Sender.{freshSender, windowIn, sending}
-use Rattle.digits.specs.Receiver.{freshReceiver, received, voiceHeard}
+use Rattle.digits.specs.Receiver.{freshReceiver, farthest, received, voiceHeard}
 use Rattle.replay.specs.Periods.{Mark, filled, carried, Near, Sublist}
 use Rattle.replay.specs.Claims.{BothReplay}
 use Rattle.carried.specs.Emissions.{Emission, octetsOf}
@@ -87,9 +87,9 @@ pub record Given (entries : List Entry) (first second : List Heard) : Type 0 whe
   pub some : Sublist (payloadsOf second) (emissions freshSender 0 entries)
   -- "the second at least all that the first gets"
   pub more : Sublist (payloadsOf first) (payloadsOf second)
-  -- "No two successive arrivals at either are more than .. 255" periods apart
-  pub near : Near 255 (arrivals first)
-  pub near2 : Near 255 (arrivals second)
+  -- "No two successive arrivals at either are more than .. 255" periods apart: the farthest step that is replayed
+  pub near : Near farthest (arrivals first)
+  pub near2 : Near farthest (arrivals second)
 
 -- Then each record replays the sender's periods, and the second keeps all that the first marks carried (`Replays` and `Keeps`
 -- of replay/specs/Claims.antt).

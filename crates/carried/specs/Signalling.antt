@@ -18,7 +18,7 @@ use Rattle.signalling.specs.declared.receiver.Receiver.{Receiver}
 use Rattle.signalling.specs.declared.receiver.Received.{Received}
 use Rattle.signalling.specs.Layout.{signallingMade}
 use Rattle.signalling.specs.Sender.{started, sent}
-use Rattle.signalling.specs.Receiver.{freshReceiver, received}
+use Rattle.signalling.specs.Receiver.{freshReceiver, farthest, received}
 use Rattle.replay.specs.Periods.{Mark, filled, carried, Near, Sublist}
 use Rattle.replay.specs.Claims.{BothReplay}
 use Rattle.carried.specs.Emissions.{Emission, octetsOf}
@@ -92,9 +92,9 @@ pub record Given (start : ℕ) (entries : List Entry) (first second : List Emiss
   pub some : Sublist second (emissions (started start .sender) 0 entries)
   -- "the second at least all that the first gets"
   pub more : Sublist first second
-  -- "No two successive arrivals at either are more than 127 periods apart"
-  pub near : Near 127 (arrivals first)
-  pub near2 : Near 127 (arrivals second)
+  -- "No two successive arrivals at either are more than 127 periods apart": the farthest step that is replayed
+  pub near : Near farthest (arrivals first)
+  pub near2 : Near farthest (arrivals second)
 
 -- Then each record replays the sender's periods, and the second keeps all that the first marks carried (`Replays` and `Keeps`
 -- of replay/specs/Claims.antt).
