@@ -12,12 +12,7 @@ ghost use Rattle.payload.specs.Layout.{familyOf};
 ghost use Rattle.card.specs.Handing.{onFamily, onChannel, afterOpening, handed, octetsOf, placeOf, sourceOf};
 ghost use Rattle.card.specs.Turn.{afterSub};
 
-// The largest frame, in octets and in sub-frames (house).
-const MOST_OCTETS: usize = 1600;
-
-const MOST_SUB_FRAMES: usize = 64;
-
-// What `source` says: a part of the frame; or the silence block, by a number that is no refusal's; else the refusal number.
+// What `source` holds: 0 for a part of the frame, 255 for the silence block (no refusal has it), else the refusal number.
 pub const FROM_FRAME: u8 = refusal::SOUND;
 
 pub const FROM_SILENCE: u8 = 255;
@@ -90,7 +85,7 @@ fn pass(frame: &[u8], found: Found, cid: u8) -> Handed
     let mut stands = before_all(found);
     let mut at: usize = 0;
     let mut count: usize = 0;
-    while count < MOST_SUB_FRAMES {
+    while count < frame::opening::MOST_SUB_FRAMES {
         match frame::header::header_at(frame, at) {
             Header::Sub(sub) => {
                 stands = after_sub(frame, found, cid, stands, sub);
@@ -118,7 +113,7 @@ pub fn find(frame: &[u8], table: &[u16; 256], cid: u8) -> Handed
     if frame.len() == 0 {
         return Handed::NotHanded(refusal::FIELD_EMPTY);
     }
-    if MOST_OCTETS < frame.len() {
+    if frame::opening::MOST_OCTETS < frame.len() {
         return Handed::NotHanded(refusal::FIELD_TOO_LONG);
     }
     pass(frame, record::table::record_of(table, cid), cid)

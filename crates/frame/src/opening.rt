@@ -5,9 +5,9 @@ ghost use mathlib.Core.Path.{_≡_};
 ghost use Rattle.frame.specs.Opening.{scanned, opening, answer};
 
 // The largest frame, in octets and in sub-frames (house).
-const MOST_OCTETS: usize = 1600;
+pub const MOST_OCTETS: usize = 1600;
 
-const MOST_SUB_FRAMES: usize = 64;
+pub const MOST_SUB_FRAMES: usize = 64;
 
 // What opening a frame tells: the refusal number, 0 for a sound frame; the place of the offending sub-frame's first octet (0
 // for 1 and 2), or the end of the field; how many sub-frames it holds; and these, in order. A refused frame has none.

@@ -1,4 +1,4 @@
--- The two lists of specs/Examples.antt are legal, by computing; the first reads back with 0 for the level and the codes.
+-- The two lists of specs/Examples.antt are legal: each content is made, by computing, and they fit.
 use Prim.Native.Nat.{ℕ, zero, suc, _≤_}
 use mathlib.Core.Path.{_≡_, refl}
 use mathlib.Core.List.{List, [], _∷_, _++_}

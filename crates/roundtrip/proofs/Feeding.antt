@@ -109,6 +109,9 @@ module _ (table frame : List ℕ) (w : Writer) (s : Sub) (ss : List Sub) (octets
   pub done-as : next .done ≡ isLast ss
   done-as = ap (λ (v : Writer). v .done) (got .place .goes-on)
 
+  pub counts-on : next .count ≡ w .count + 1
+  counts-on = ap (λ (v : Writer). v .count) (got .place .goes-on)
+
   short : isLast ss ≡ false → length (got .payload) ≤ 255
   short more = ltb-false 255 (length (got .payload)) (sym (ap (λ (l : Bool). tooLong l (length (got .payload))) more) ∙ got .place .short)
 

@@ -4,6 +4,7 @@ use mathlib.Core.Path.{_≡_, refl, sym, ap, ap₂, _∙_}
 use mathlib.Core.List.{List, [], _∷_, _++_}
 use mathlib.Core.Bool.{Bool, true, false}
 use mathlib.Core.Logic.{⊎-elim}
+use native.Mathlib.Nat.{add-zero, zero-add}
 use native.Mathlib.Omega.{arith}
 use lib.ListN.{length, take, drop, length-append, take-append-drop}
 use lib.Seq.{take-at, drop-drop, drop-at, length-take-le, take-append-le, take-take}
@@ -18,7 +19,7 @@ use Rattle.writer.specs.Writer.{freshWriter, Writing, writes, refuses, writing,
 use Rattle.writer.proofs.WriteBack.{too-small, large-enough}
 use Rattle.roundtrip.specs.Demand2.{Sub, AllStated, isLast, Fed, took, stopped, after, onwards, first, fed, Legal, CutShort, LessRoom}
 use Rattle.roundtrip.proofs.RoundTrip.{some}
-use Rattle.roundtrip.proofs.Feeding.{Standing, Run, feeding, same-took, first-taken, fits-room, size, next-stands, done-as}
+use Rattle.roundtrip.proofs.Feeding.{Standing, Run, feeding, same-took, first-taken, fits-room, size, next-stands, done-as, counts-on}
 
 -- the room up to the end of what is written, and beyond it
 written-take : (room octets : List ℕ) (at : ℕ) → at + length octets ≤ length room → take (at + length octets) (written room at octets) ≡ take at room ++ octets
@@ -49,6 +50,7 @@ written-front room octets at here =
 
 -- how it stops, from where the writer stands
 record Stops (table frame small : List ℕ) (w : Writer) (ss : List Sub) (left : List ℕ) : Type 0 where
+  before : List Sub
   s : Sub
   rest : List Sub
   here : Writer
@@ -56,6 +58,8 @@ record Stops (table frame small : List ℕ) (w : Writer) (ss : List Sub) (left :
   next : Writer
   octets : List ℕ
   stops : fed table small w ss ≡ stopped roomTooSmall (s ∷ rest) here held
+  split : ss ≡ before ++ s ∷ rest
+  counted : here .count ≡ w .count + length before
   ahead : w .at ≤ here .at
   fits-before : here .at ≤ length small
   would-be : writing (length frame) here (isLast rest) (foundAt table (s .cid)) (s .cid) (s .content) ≡ writes octets next
@@ -95,6 +99,7 @@ less-room-from table (s ∷ ss) frame small w to left stated done stands alike i
     ap (take (w .at)) (run .holds) ∙ written-front frame (joined (run .contents)) (w .at) (stands .inside) ∙ alike
     in
     record {
+      before = [];
       s = s;
       rest = ss;
       here = w;
@@ -102,6 +107,8 @@ less-room-from table (s ∷ ss) frame small w to left stated done stands alike i
       next = next;
       octets = octets;
       stops = ap (λ (d : Writing). onwards d (s ∷ ss) w small (fed table (leftWriting d small (w .at)) (after d w) ss)) refused;
+      split = refl;
+      counted = sym (add-zero (w .count));
       ahead = omega arith;
       fits-before = before;
       would-be = does;
@@ -128,9 +135,12 @@ less-room-from table (s ∷ ss) frame small w to left stated done stands alike i
     (rw kept-small enough)
     (rw kept-small past)
     in
+    let one-more : next .count ≡ w .count + 1 = counts-on table frame w s ss octets next octet does in
+    let so-many : stop .here .count ≡ next .count + length (stop .before) = stop .counted in
     let on : next .at ≤ stop .here .at = stop .ahead in
     let past-it : w .at + length octets ≤ stop .here .at = omega arith in
     record {
+      before = s ∷ stop .before;
       s = stop .s;
       rest = stop .rest;
       here = stop .here;
@@ -139,6 +149,8 @@ less-room-from table (s ∷ ss) frame small w to left stated done stands alike i
       octets = stop .octets;
       stops =
           ap (λ (d : Writing). onwards d (s ∷ ss) w small (fed table (leftWriting d small (w .at)) (after d w) ss)) taken ∙ stop .stops;
+      split = ap (λ (l : List Sub). s ∷ l) (stop .split);
+      counted = omega arith;
       ahead = omega arith;
       fits-before = rw kept-small at (stop .fits-before);
       would-be =
@@ -162,6 +174,7 @@ less-room table frame small ss w left legal past =
     past
     in
     record {
+      before = stop .before;
       s = stop .s;
       rest = stop .rest;
       w = stop .here;
@@ -169,6 +182,8 @@ less-room table frame small ss w left legal past =
       next = stop .next;
       octets = stop .octets;
       stops = stop .stops;
+      split = stop .split;
+      counted = stop .counted ∙ zero-add (length (stop .before));
       fits-before = stop .fits-before;
       would-be = stop .would-be;
       does-not-fit = stop .does-not-fit;

@@ -22,7 +22,7 @@ use Rattle.payload.specs.Content.{payloadRead}
 use Rattle.payload.proofs.ContentBack.{content-reads-back}
 use Rattle.writer.specs.declared.place.Writer.{Writer}
 use Rattle.writer.specs.Writer.{freshWriter}
-use Rattle.roundtrip.specs.Demand2.{Sub, Stated, AllStated, isLast, took, fed, Legal, frameOf, Got, gotOf, gotten, sameAs, RoundTrip, WrittenReadsBack, AllMade}
+use Rattle.roundtrip.specs.Demand2.{Sub, Stated, AllStated, isLast, took, fed, Legal, frameOf, Got, gotOf, gotten, sameAs, RoundTrip, WrittenReadsBack, AllMade, end, LegalIsMade}
 use Rattle.roundtrip.proofs.Feeding.{Standing, Run, feeding, same-took}
 
 map-map : {A B C : Type 0} (f : B → C) (g : A → B) (l : List A) → map f (map g l) ≡ map (λ a. f (g a)) l
@@ -63,6 +63,37 @@ legal-run table frame ss w left legal =
     (record { few = omega arith; within = omega arith; inside = omega arith })
     (legal .taken)
 
+-- the joined form of the contents fits a frame
+run-fits : (table frame : List ℕ) (ss : List Sub) (w : Writer) (left : List ℕ) (legal : Legal table frame ss w left)
+    → Fits (legal-run table frame ss w left legal .contents)
+run-fits table frame ss w left legal =
+    let run = legal-run table frame ss w left legal in
+    let cs = run .contents in
+    let few : w .count ≤ 64 = run .stands .few in
+    let count : w .count ≡ length cs = run .count ∙ zero-add (length cs) in
+    let most : w .at ≤ 1600 = run .stands .within in
+    let at : w .at ≡ length (joined cs) = run .at ∙ zero-add (length (joined cs)) in
+    record {
+      some = some-made table ss cs (some table frame ss w left legal) (run .each-made);
+      most = omega arith;
+      each = run .each;
+      whole = omega arith;
+    }
+
+pub legal-is-made : LegalIsMade
+legal-is-made table frame ss w left legal =
+    let run = legal-run table frame ss w left legal in
+    let cs = run .contents in
+    let at : w .at ≡ length (joined cs) = run .at ∙ zero-add (length (joined cs)) in
+    let count : w .count ≡ length cs = run .count ∙ zero-add (length cs) in
+    let here : w .at ≤ length frame = run .stands .inside in
+    let is : w ≡ end cs =
+    ap (λ (n : ℕ). record { at = n; count = w .count; done = w .done }) at
+    ∙ ap (λ (n : ℕ). record { at = length (joined cs); count = n; done = w .done }) count
+    ∙ ap (λ (d : Bool). record { at = length (joined cs); count = length cs; done = d }) (run .done)
+    in
+    (cs, run .each-made, run-fits table frame ss w left legal, rw at at here, is, run .holds)
+
 pub written-reads-back : WrittenReadsBack
 written-reads-back table frame ss w left legal =
     let run = legal-run table frame ss w left legal in
@@ -88,6 +119,7 @@ written-reads-back table frame ss w left legal =
     ∙ got-back table ss cs (legal .stated) (run .each-made)
     in
     record {
+      inside = run .stands .inside;
       beyond = holds ∙ ap₂ (λ (a : List ℕ) (n : ℕ). a ++ drop n frame) (sym is) (sym at);
       sound = subst Sound (sym is) (opens .0);
       same = ap (gotten table) is ∙ same;

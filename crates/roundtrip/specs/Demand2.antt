@@ -1,10 +1,10 @@
 -- Demand 2: "A legal list of sub-frames, written and read again, gives the same list, save that a level above zero and the code
 -- of an off window come back as 0; a written frame is the one shortest form."
 --
--- It holds of the compiled code by the contracts alone. Each function of crate `writer` promises the answer and the lent frame
--- that `writing` and `leftWriting` give, and `fed` is nothing but these, one sub-frame after the other. `frame::opening::open`
--- promises `opening`, `record::table::record_of` promises `foundAt`, and the readers of the payloads promise what `payloadRead`
--- is made of. Proved in proofs/.
+-- It holds of the code by the contracts: `writer::place::fresh` is `freshWriter`; the six `write_` functions promise what
+-- `writing` and `leftWriting` give, and `fed` is nothing but these, one after the other; `frame::opening::open` promises
+-- `answer (opening ..)`, `record::table::record_of` `foundAt`, `payload::layout::layout_of` `layoutOf`, and each `read_` function
+-- its part of `readAs`. Proved in proofs/.
 use Prim.Native.Nat.{ℕ, _<_, _≤_}
 use mathlib.Core.Path.{_≡_}
 use mathlib.Core.List.{List, [], _∷_, _++_, map}
@@ -46,7 +46,8 @@ abbrev pub isLast : List Sub → Bool
 isLast [] = true
 isLast (s ∷ ss) = false
 
--- The writer fed a list: it took all, and stands there with the lent frame so; or it stopped with a number at the first of these.
+-- The writer fed a list: it took all, with the writer and the lent frame then; or it stopped, with the number, the sub-frames
+-- that it did not take, and the writer and the lent frame then.
 pub data Fed : Type 0 where
   took : Writer → List ℕ → Fed
   stopped : ℕ → List Sub → Writer → List ℕ → Fed
@@ -98,9 +99,10 @@ gotten table f = map (gotOf table f) (opening f .subs)
 abbrev pub sameAs : Sub → Got
 sameAs s = record { cid = s .cid; reading = reads (normalContent (s .content)) }
 
--- The written frame is sound and reads as the list; the lent frame beyond it stands as it was; and any frame that opens to the
--- same sub-frames is longer, or is this one.
+-- The written frame lies in the lent one, which beyond it stands as it was; it is sound and reads as the list; and any frame of
+-- octets that opens to the same sub-frames is longer, or is this one.
 pub record RoundTrip (table frame : List ℕ) (ss : List Sub) (w : Writer) (left : List ℕ) : Type 0 where
+  pub inside : w .at ≤ length frame
   pub beyond : left ≡ frameOf w left ++ drop (w .at) frame
   pub sound : Sound (frameOf w left)
   pub same : gotten table (frameOf w left) ≡ map sameAs ss
@@ -115,8 +117,8 @@ abbrev pub WrittenReadsBack : Type 0
 WrittenReadsBack =
     (table frame : List ℕ) (ss : List Sub) (w : Writer) (left : List ℕ) → Legal table frame ss w left → RoundTrip table frame ss w left
 
--- Which lists are legal: those of which each content is made on its sub-channel, where the sub-frames fit a frame and the lent
--- room. They are then written as joined.
+-- Which lists are legal: exactly those of which each content is made on its sub-channel, where the sub-frames fit a frame and the
+-- lent room. They are then written as joined.
 abbrev pub MadeAs : List ℕ → Sub → joining.Content → Type 0
 MadeAs table s c =
     (c .cid ≡ s .cid)
@@ -140,9 +142,21 @@ MadeIsTaken =
     → length (joined cs) ≤ length frame
     → fed table frame freshWriter ss ≡ took (end cs) (written frame 0 (joined cs))
 
--- Less room: the writer stops with 21 at the first sub-frame that does not fit, and what lies beyond those before it stands as
--- it was.
+abbrev pub LegalIsMade : Type 0
+LegalIsMade =
+    (table frame : List ℕ) (ss : List Sub) (w : Writer) (left : List ℕ)
+    → Legal table frame ss w left
+    → (cs : List joining.Content)
+    × AllMade table ss cs
+    × Fits cs
+    × (length (joined cs) ≤ length frame)
+    × (w ≡ end cs)
+    × (left ≡ written frame 0 (joined cs))
+
+-- Less room: the writer stops with 21 at the first sub-frame that does not fit, and behind the sub-frames already written the
+-- lent frame stands as it was.
 pub record CutShort (table frame small : List ℕ) (ss : List Sub) (left : List ℕ) : Type 0 where
+  pub before : List Sub
   pub s : Sub
   pub rest : List Sub
   pub w : Writer
@@ -150,6 +164,8 @@ pub record CutShort (table frame small : List ℕ) (ss : List Sub) (left : List 
   pub next : Writer
   pub octets : List ℕ
   pub stops : fed table small freshWriter ss ≡ stopped roomTooSmall (s ∷ rest) w held
+  pub split : ss ≡ before ++ s ∷ rest
+  pub counted : w .count ≡ length before
   pub fits-before : w .at ≤ length small
   pub would-be : first table frame w s rest ≡ writes octets next
   pub does-not-fit : length small < next .at

@@ -1,5 +1,5 @@
 -- Legal lists: one with each of the six kinds of content, and one of 64 sub-frames and 1,600 octets. Proved legal in
--- proofs/Examples.antt, so that what demand 2 asks for can be met.
+-- proofs/Examples.antt, so the hypotheses of demand 2 can be met.
 use Prim.Native.Nat.{ℕ}
 use mathlib.Core.List.{List, [], _∷_, _++_}
 use mathlib.Core.Bool.{Bool, true, false}

@@ -1,3 +1,4 @@
 pub mod PlaceCases
 pub mod WriteCases
 pub mod WriteBack
+pub mod Examples

@@ -28,12 +28,13 @@ use Rattle.writer.specs.declared.place.Entered.the-variants.{Place, NoPl
 abbrev pub freshWriter : Writer
 freshWriter = record { at = 0; count = 0; done = false }
 
--- 24, 4, then 11 and 12: the record of the sub-channel and the content's type there.
+-- 11 and 12: the record of the sub-channel and the content's type there.
 abbrev pub onChannel : TypeFor → Found → Channel
 onChannel (Typed ptype) (Provisioned r) = Takes r ptype
 onChannel (Typed ptype) Unprovisioned = TakesNot notProvisioned
 onChannel (NoType number) found = TakesNot number
 
+-- 24, 4, then those
 unfoldable pub channelFor : Writer → Found → ℕ → Kind → Channel
 channelFor w found cid kind =
     cond (w .done) (TakesNot alreadyLast) (cond (ltb cid 4) (TakesNot cidReserved) (onChannel (typeFor found kind) found))
@@ -86,7 +87,7 @@ abbrev pub onto : Channel → ℕ → Writer → Bool → ℕ → Content → Wr
 onto (Takes r ptype) room w last cid content = ofMade room w last cid ptype (madeOn r content)
 onto (TakesNot number) room w last cid content = refuses number
 
--- A content for a sub-channel of this CID and with this record, in a lent frame of `room` octets.
+-- A content for a sub-channel of this CID, with what is provisioned there, in a lent frame of `room` octets.
 unfoldable pub writing : ℕ → Writer → Bool → Found → ℕ → Content → Writing
 writing room w last found cid content = onto (channelFor w found cid (kindOf content)) room w last cid content
 

@@ -12,15 +12,11 @@ ghost use Rattle.record.specs.Record.{foundAt};
 ghost use Rattle.frame.specs.Joining.{shortestHeader};
 ghost use Rattle.writer.specs.Writer.{freshWriter, channelFor, tooLong, full, placed, entered, leftEntered, sizeOf};
 
-// The largest frame, in octets and in sub-frames (house).
-const MOST_OCTETS: usize = 1600;
-
-const MOST_SUB_FRAMES: usize = 64;
-
 // The largest payload that is not last, by its length octet.
 const MOST_NOT_LAST: usize = 255;
 
-// Where the writer stands: the octets and the sub-frames written, and whether the last one is among them. Every value is taken.
+// Where the writer stands: the octets and the sub-frames written, and whether the last one is among them. A caller
+// may hand in any value.
 pub struct Writer {
     pub at: usize,
     pub count: usize,
@@ -88,16 +84,16 @@ fn too_long(last: bool, len: usize) -> bool
 fn full(writer: Writer, header: usize, len: usize) -> bool
     ensures { λ r. ⌜ r ≡ full writer (writer .at + header + len) ⌝ }
 {
-    if MOST_SUB_FRAMES <= writer.count {
+    if frame::opening::MOST_SUB_FRAMES <= writer.count {
         return true;
     }
-    if MOST_OCTETS < writer.at {
+    if frame::opening::MOST_OCTETS < writer.at {
         return true;
     }
-    if MOST_OCTETS - writer.at < header {
+    if frame::opening::MOST_OCTETS - writer.at < header {
         return true;
     }
-    MOST_OCTETS - writer.at - header < len
+    frame::opening::MOST_OCTETS - writer.at - header < len
 }
 
 // 22, 23, 21: whether a payload of so many octets has its place in so much room.
@@ -126,7 +122,7 @@ fn place(room: usize, writer: Writer, last: bool, cid: u8, ptype: u8, len: usize
     }
 }
 
-// 13 to 16 as the payload fits, then 22, 23, 21; where it has its place, its header is written.
+// 13 to 16 where the payload does not fit, then 22, 23, 21; where it has its place, its header is written.
 pub(crate) fn enter(
     frame: &mut [u8],
     writer: Writer,
