@@ -1,8 +1,10 @@
--- A content written on its sub-channel and read again (demand 2). Proved in proofs/ContentBack.antt.
+-- A content written on its sub-channel and read again, and a payload read there and written again (demand 2). Proved in
+-- proofs/ContentBack.antt and proofs/ContentAgain.antt.
 use Prim.Native.Nat.{ℕ}
 use mathlib.Core.Path.{_≡_}
 use mathlib.Core.List.{List}
 use lib.ListN.{length}
+use Rattle.octets.specs.Octets.{Octets}
 use Rattle.octets.specs.Made.{made}
 use Rattle.record.specs.declared.table.Found.{Found}
 use Rattle.digits.specs.Claims.{normal}
@@ -36,3 +38,19 @@ ContentReadsBack =
     → typeFor found (kindOf content) ≡ Typed ptype
     → payloadMade found content ≡ made octets
     → payloadRead found ptype octets ≡ reads (normalContent content)
+
+-- A content that a payload reads as is made again with the payload's type, in as many octets, which read the same.
+pub record Again (found : Found) (ptype : ℕ) (octets : List ℕ) (content : Content) : Type 0 where
+  pub typed : typeFor found (kindOf content) ≡ Typed ptype
+  pub thirty : samplesIn content ≡ 30
+  pub again : List ℕ
+  pub makes : payloadMade found content ≡ made again
+  pub as-many : length again ≡ length octets
+  pub alike : payloadRead found ptype again ≡ reads content
+
+abbrev pub ContentMadeAgain : Type 0
+ContentMadeAgain =
+    (found : Found) (ptype : ℕ) (octets : List ℕ) (content : Content)
+    → Octets octets
+    → payloadRead found ptype octets ≡ reads content
+    → Again found ptype octets content
