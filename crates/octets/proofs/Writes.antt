@@ -1,13 +1,13 @@
 -- Copies into room, and two copies one behind the other.
 use Prim.Native.Nat.{ℕ, _+_, _<_, _≤_}
 use mathlib.Core.Path.{_≡_, refl, sym, ap, ap₂, _∙_}
-use mathlib.Core.List.{List, _++_, append-assoc}
+use mathlib.Core.List.{List, [], _∷_, _++_, append-assoc}
 use native.Mathlib.Nat.{add-assoc}
-use native.Mathlib.Numerals.{add-one}
+use native.Mathlib.Numerals.{add-one, add-two}
 use native.Mathlib.Omega.{arith}
 use borrow.Author.Tests.{lt-ltb, le-ltb}
 use lib.ListN.{length, getD, set, take, drop, length-append, length-drop}
-use lib.Seq.{paste, paste-suc, length-paste, take-all, take-at, drop-at, drop-drop, length-take-le}
+use lib.Seq.{sets-eq, paste, paste-suc, length-paste, take-all, take-at, drop-at, drop-drop, length-take-le}
 use Rattle.refusal.specs.Numbers.{roomTooSmall}
 use Rattle.octets.specs.declared.Put.{Put}
 use Rattle.octets.specs.declared.Put.the-variants.{Written, NotWritten}
@@ -50,6 +50,33 @@ written-twice room head body at fits =
     ∙ ap (λ (k : ℕ). take at room ++ (head ++ body) ++ drop k room)
     (add-assoc at (length head) (length body) ∙ ap (λ (k : ℕ). at + k) (sym (length-append head body)))
 
+-- octets that stand, and more stored behind them
+pub behind :
+    (room head body first whole : List ℕ) (at next : ℕ)
+    → next ≡ at + length head
+    → next + length body ≤ length room
+    → first ≡ written room at head
+    → whole ≡ written first next body
+    → whole ≡ written room at (head ++ body)
+behind room head body first whole at next n fits p q =
+    q ∙ ap₂ (λ (l : List ℕ) (k : ℕ). written l k body) p n ∙ written-twice room head body at (omega arith)
+
+pub as-long : (room octets whole : List ℕ) (at : ℕ) → at + length octets ≤ length room → whole ≡ written room at octets → length whole ≡ length room
+as-long room octets whole at fits is = ap length is ∙ length-written room octets at fits
+
+-- octets stored one by one, each at its place
+module _ (room : List ℕ) (at : ℕ) where
+  pub one-stored : (a : ℕ) → at + 1 ≤ length room → set room at a ≡ written room at (a ∷ [])
+  one-stored a fits = sets-eq (a ∷ []) room at fits
+
+  pub two-stored : (a b : ℕ) → at + 2 ≤ length room → set (set room at a) (at + 1) b ≡ written room at (a ∷ b ∷ [])
+  two-stored a b fits = rw (add-one at) (sets-eq (a ∷ b ∷ []) room at fits)
+
+  pub three-stored : (a b c : ℕ)
+      → at + 3 ≤ length room
+      → set (set (set room at a) (at + 1) b) (at + 2) c ≡ written room at (a ∷ b ∷ c ∷ [])
+  three-stored a b c fits = rw (add-one at, add-two at) (sets-eq (a ∷ b ∷ c ∷ []) room at fits)
+
 module _ (room octets : List ℕ) (at : ℕ) where
   pub too-small : length room < at + length octets → NotWritten roomTooSmall ≡ put room at octets
   unfolding put
@@ -58,3 +85,24 @@ module _ (room octets : List ℕ) (at : ℕ) where
   pub room-for : at + length octets ≤ length room → Written (at + length octets) ≡ put room at octets
   unfolding put
   room-for h = simp (le-ltb (length room) (at + length octets) h)
+
+-- octets that stand, and a run put behind them
+pub put-behind :
+    (room head body : List ℕ) (at : ℕ) (answer : Put) (left : List ℕ)
+    → at + length (head ++ body) ≤ length room
+    → answer ≡ put (written room at head) (at + length head) body
+    → left ≡ leftBy answer (written room at head) (at + length head) body
+    → (answer ≡ put room at (head ++ body)) × (left ≡ leftBy answer room at (head ++ body))
+put-behind room head body at answer left fits p h =
+    let many = length-append head body in
+    let whole : at + length head + length body ≡ at + length (head ++ body) = omega arith in
+    let same : length (written room at head) ≡ length room = length-written room head at (omega arith) in
+    let is : answer ≡ Written (at + length (head ++ body)) =
+    p ∙ sym (room-for (written room at head) body (at + length head) (omega arith)) ∙ ap Written whole
+    in (
+      is ∙ room-for room (head ++ body) at fits,
+      h
+          ∙ ap (λ (a : Put). leftBy a (written room at head) (at + length head) body) is
+          ∙ written-twice room head body at (omega arith)
+          ∙ sym (ap (λ (a : Put). leftBy a room at (head ++ body)) is),
+    )

@@ -4,7 +4,7 @@ ghost use mathlib.Core.List.{_++_};
 ghost use Prim.Native.Nat.{_+_, _≤_};
 ghost use lib.ListN.{length};
 ghost use mathlib.Core.Bool.{cond};
-ghost use lib.Dec.{eqb};
+ghost use lib.Dec.{ltb, eqb};
 ghost use lib.ListN.{getD};
 ghost use Rattle.octets.specs.Room.{put, written, leftBy};
 
@@ -46,6 +46,28 @@ fn copy(room: &mut [u8], at: usize, from: &[u8])
         room[at + i] = from[i];
         i += 1;
     }
+}
+
+// Whether so many octets, from a place on, exceed a room of this length.
+pub fn exceeds(room: usize, at: usize, size: usize) -> bool
+    ensures { λ r. ⌜ r ≡ ltb room (at + size) ⌝ }
+{
+    if room < at {
+        return true;
+    }
+    room - at < size
+}
+
+// Writes a run of octets at a place of lent room: 21 exactly when they exceed what is left of it.
+pub fn put_octets(room: &mut [u8], at: usize, octets: &[u8]) -> Put
+    ensures answer { λ r. ⌜ r ≡ put (now (room .entry)) at (now (octets .entry)) ⌝ }
+    ensures holds { λ r. ⌜ now (room .exit) ≡ leftBy r (now (room .entry)) at (now (octets .entry)) ⌝ }
+{
+    if exceeds(room.len(), at, octets.len()) {
+        return Put::NotWritten(refusal::ROOM_TOO_SMALL);
+    }
+    copy(room, at, octets);
+    Put::Written(at + octets.len())
 }
 
 // Writes two runs of octets, one behind the other, at a place of lent room: 21 exactly when they exceed what is left of it.
