@@ -22,7 +22,7 @@ use Rattle.digits.specs.declared.layout.Window.{Window}
 use Rattle.digits.specs.declared.layout.Digits.{Digits}
 use Rattle.digits.specs.declared.layout.DigitsRead.{DigitsRead}
 use Rattle.digits.specs.declared.layout.DigitsRead.the-variants.{Dialled, BadDigits}
-use Rattle.digits.specs.Layout.{windowReserved, windowOut, windowOf, judged, digitsRead, windowWrong, windowOctets, windowFirst, windowSecond, levelLow, levelCode, digitsOctets, digitsHead, digitsMade}
+use Rattle.digits.specs.Layout.{windowReserved, windowOut, windowOf, judged, digitsRead, windowWrong, windowOctets, levelLow, levelCode, digitsOctets, digitsMade}
 use Rattle.digits.specs.Claims.{normalLevel, normalWindow, normal, DigitsReadBack, heard, unheard, DigitsMadeAgain, DigitsReadAlike}
 use Rattle.digits.proofs.LayoutCases as cases
 
@@ -56,7 +56,7 @@ pub made-octets : (d : Digits) → Fitting d → digitsMade d ≡ made (digitsOc
 made-octets d f = cases.all-right d (f .fair) (f .w0) (f .w1) (f .w2)
 
 -- a window in its range
-edge-small : (on : Bool) (edge code : ℕ) → windowWrong (record { on = on; edge = edge; code = code }) ≡ false → edge ≤ 19
+pub edge-small : (on : Bool) (edge code : ℕ) → windowWrong (record { on = on; edge = edge; code = code }) ≡ false → edge ≤ 19
 edge-small on edge code e =
     ⊎-elim (λ over. clash (windowWrong (record { on = on; edge = edge; code = code })) (simp (lt-ltb 19 edge over)) e) (λ h. h)
     (lt-or-le 19 edge)
@@ -68,20 +68,6 @@ code-small edge code e =
     (λ over. clash (windowWrong (record { on = true; edge = edge; code = code })) (simp (le-ltb 19 edge h, lt-ltb 15 code over)) e)
     (λ k. k)
     (lt-or-le 15 code)
-
--- the octets that the code makes of a window are those of its layout
-octets-same : (on : Bool) (edge code : ℕ)
-    → windowWrong (record { on = on; edge = edge; code = code }) ≡ false
-    → windowFirst (record { on = on; edge = edge; code = code }) ≡ cond on 32 0 + edge
-octets-same true edge code e = let h = edge-small true edge code e in omega arith
-octets-same false edge code e = let h = edge-small false edge code e in omega arith
-
-pub head-is : (d : Digits) → Fitting d → digitsHead d ≡ digitsOctets d
-head-is d f =
-    let c = d .current in
-    let r = d .recent in
-    let p = d .previous in
-    rw (octets-same (c .on) (c .edge) (c .code) (f .w0), octets-same (r .on) (r .edge) (r .code) (f .w1), octets-same (p .on) (p .edge) (p .code) (f .w2))
 
 -- a window that was written reads back
 record Back (a b : ℕ) (w : Window) : Type 0 where

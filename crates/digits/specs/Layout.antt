@@ -69,13 +69,6 @@ windowWrong w = cond (ltb 19 (w .edge)) true (cond (w .on) (ltb 15 (w .code)) fa
 abbrev pub windowOctets : Window → List ℕ
 windowOctets w = (cond (w .on) 32 0 + w .edge) ∷ cond (w .on) (w .code) 0 ∷ []
 
--- the same octets, for every window that a struct can hold
-abbrev pub windowFirst : Window → ℕ
-windowFirst w = cond (w .on) (32 + w .edge % 32) (w .edge % 32)
-
-abbrev pub windowSecond : Window → ℕ
-windowSecond w = cond (w .on) (w .code) 0
-
 abbrev pub levelCode : Coded → ℕ
 levelCode (Code magnitude) = magnitude
 levelCode Above = 0
@@ -91,18 +84,6 @@ digitsOctets d =
     d .sequence .0
     ∷ levelCode (codeOf 31 (d .level))
     ∷ (windowOctets (d .current) ++ (windowOctets (d .recent) ++ windowOctets (d .previous)))
-
-abbrev pub digitsHead : Digits → List ℕ
-digitsHead d =
-    d .sequence .0
-    ∷ levelCode (codeOf 31 (d .level))
-    ∷ windowFirst (d .current)
-    ∷ windowSecond (d .current)
-    ∷ windowFirst (d .recent)
-    ∷ windowSecond (d .recent)
-    ∷ windowFirst (d .previous)
-    ∷ windowSecond (d .previous)
-    ∷ []
 
 unfoldable pub digitsMade : Digits → Made
 digitsMade d =

@@ -4,8 +4,12 @@ use levels::Coded;
 use octets::Fit;
 use octets::Put;
 ghost use mathlib.Core.Path.{_≡_};
-ghost use Rattle.octets.specs.Made.{fitOf, putMade, leftMade};
-ghost use Rattle.digits.specs.Layout.{offWindow, windowReserved, windowOut, windowOf, judged, digitsRead, windowWrong, levelLow, levelCode, windowFirst, windowSecond, digitsHead, digitsMade};
+ghost use mathlib.Core.Bool.{false};
+ghost use Prim.Native.Nat.{_+_, _≤_};
+ghost use lib.ListN.{length};
+ghost use Rattle.octets.specs.Room.{written};
+ghost use Rattle.octets.specs.Made.{made, fitOf, putMade, leftMade};
+ghost use Rattle.digits.specs.Layout.{offWindow, windowReserved, windowOut, windowOf, judged, digitsRead, windowWrong, windowOctets, levelLow, levelCode, digitsOctets, digitsMade};
 ghost use Rattle.levels.specs.Level.{codeOf};
 
 // One 20 ms period: off or on with a code, and where in it the change lies, in ms.
@@ -191,37 +195,33 @@ pub fn fit_digits(digits: Digits) -> Fit
     Fit::Octets(8)
 }
 
-// The first octet of a window that fits, and the second.
-fn window_first(w: Window) -> u8
-    ensures { λ r. ⌜ r ≡ windowFirst w ⌝ }
+// Stores the two octets of a window that fits.
+fn store_window(room: &mut [u8], at: usize, w: Window)
+    requires { ⌜ (windowWrong w ≡ false) × (at + 2 ≤ length (now room)) ⌝ }
+    ensures { λ r. ⌜ now (room .exit) ≡ written (now (room .entry)) at (windowOctets w) ⌝ }
 {
-    let edge = w.edge % 32;
-    if w.on { 32 + edge } else { edge }
+    if w.on {
+        room[at] = 32 + w.edge;
+        room[at + 1] = w.code;
+    } else {
+        room[at] = w.edge;
+        room[at + 1] = 0;
+    }
 }
 
-fn window_second(w: Window) -> u8
-    ensures { λ r. ⌜ r ≡ windowSecond w ⌝ }
+// Stores the eight octets of a digits payload that fits.
+fn store_digits(room: &mut [u8], at: usize, digits: Digits)
+    requires { ⌜ (digitsMade digits ≡ made (digitsOctets digits)) × (at + 8 ≤ length (now room)) ⌝ }
+    ensures { λ r. ⌜ now (room .exit) ≡ written (now (room .entry)) at (digitsOctets digits) ⌝ }
 {
-    if w.on { w.code } else { 0 }
-}
-
-// The octets of a digits payload that fits.
-fn digits_octets(digits: Digits) -> [u8; 8]
-    ensures { λ r. ⌜ r ≡ digitsHead digits ⌝ }
-{
+    room[at] = digits.sequence.0;
+    room[at + 1] = level_code(digits.level);
     let current = digits.current;
+    store_window(room, at + 2, current);
     let recent = digits.recent;
+    store_window(room, at + 4, recent);
     let previous = digits.previous;
-    [
-        digits.sequence.0,
-        level_code(digits.level),
-        window_first(current),
-        window_second(current),
-        window_first(recent),
-        window_second(recent),
-        window_first(previous),
-        window_second(previous),
-    ]
+    store_window(room, at + 6, previous);
 }
 
 // Writes a digits payload at a place of lent room.
@@ -231,9 +231,12 @@ pub fn put_digits(room: &mut [u8], at: usize, digits: Digits) -> Put
 {
     match fit_digits(digits) {
         Fit::Unfit(number) => Put::NotWritten(number),
-        Fit::Octets(_) => {
-            let head = digits_octets(digits);
-            octets::put_both(room, at, &head, b"")
+        Fit::Octets(size) => {
+            if octets::exceeds(room.len(), at, size) {
+                return Put::NotWritten(refusal::ROOM_TOO_SMALL);
+            }
+            store_digits(room, at, digits);
+            Put::Written(at + size)
         }
     }
 }
