@@ -8,8 +8,10 @@ use native.Mathlib.Nat.{zero-add, not-suc-le-zero, le-of-suc-le-suc, add-zero}
 use native.Mathlib.Omega.{arith}
 use borrow.Author.Tests.{lt-ltb, ltb-true, eq-eqb, ne-eqb}
 use lib.Dec.{ltb, eqb}
-use lib.ListN.{length, getD, take, drop}
-use lib.Seq.{drop-cons, ext-getD, take-all}
+use lib.ListN.{length, getD, set, take, drop}
+use lib.Seq.{paste, drop-cons, ext-getD, take-all}
+use Rattle.octets.specs.Room.{written}
+use Rattle.octets.proofs.Writes as writes
 use Rattle.octets.proofs.Order.{lt-or-le, eq-or-ne, either}
 use Rattle.octets.proofs.MadeBack.{same-made, never-made}
 use Rattle.octets.specs.Octets.{Octets}
@@ -17,7 +19,7 @@ use Rattle.octets.specs.Made.{made}
 use Rattle.refusal.specs.Numbers.{sound, lengthWrong}
 use Rattle.signalling.specs.declared.layout.Signalling.{Signalling}
 use Rattle.signalling.specs.declared.layout.SignallingRead.{SignallingRead}
-use Rattle.signalling.specs.Layout.{allowed, halves, nothing, allAllowed, pairAt, pairs, firstOctet, pairCut, pairsCut, signallingHead, signallingMade}
+use Rattle.signalling.specs.Layout.{allowed, halves, nothing, allAllowed, pairAt, pairs, firstOctet, signallingMade}
 use Rattle.signalling.specs.Claims.{SignallingReadsBack, SignallingMadeAgain}
 use Rattle.signalling.proofs.LayoutCases as cases
 use Rattle.signalling.proofs.Halves as halves-of
@@ -44,20 +46,39 @@ unfolding pairs
 length-pairs zero k samples = refl
 length-pairs (suc n) k samples = ap suc (length-pairs n (suc k) samples)
 
-pub all-small : (s : Signalling) → Fitting s → (j : ℕ) → j < 30 → getD (s .samples) j 0 < 16
-all-small s f j h = rw (zero-add j) at (ltb-true (getD (s .samples) (0 + j) 0) 16 (each-passes (allowed-looks (s .samples)) 30 0 (f .fair) j h))
+pair-at : (n k : ℕ) (samples : List ℕ) (j : ℕ) → j < n → getD (pairs n k samples) j 0 ≡ pairAt samples (k + j)
+unfolding pairs
+pair-at zero k samples j h = absurd (not-suc-le-zero h)
+pair-at (suc n) k samples zero h = rw (add-zero k)
+pair-at (suc n) k samples (suc j) h =
+    let same : suc k + j ≡ k + suc j = omega arith in
+    pair-at n (suc k) samples j (le-of-suc-le-suc h) ∙ ap (pairAt samples) same
 
--- allowed samples fill their halves and no more
+-- the octets of the pairs, of which i are stored
+module _ (samples room₀ room : List ℕ) (at i : ℕ) (fits : at + 15 ≤ length room₀) (within : i ≤ 15)
+    (is : room ≡ paste room₀ at (pairs 15 0 samples) i) where
+  whole-fits : at + length (pairs 15 0 samples) ≤ length room₀
+  whole-fits = omega (arith, length-pairs 15 0 samples)
+
+  of-them : i ≤ length (pairs 15 0 samples)
+  of-them = omega (arith, length-pairs 15 0 samples)
+
+  pub same-room : length room ≡ length room₀
+  same-room = writes.same-length room₀ (pairs 15 0 samples) room at i whole-fits of-them is
+
+  pub next-stored : i < 15 → set room (at + i) (pairAt samples i) ≡ paste room₀ at (pairs 15 0 samples) (i + 1)
+  next-stored less =
+      let value : getD (pairs 15 0 samples) i 0 ≡ pairAt samples i = pair-at 15 0 samples i less ∙ ap (pairAt samples) (zero-add i) in
+      ap (set room (at + i)) (sym value)
+      ∙ writes.turn room₀ (pairs 15 0 samples) room at i whole-fits of-them is (omega (arith, length-pairs 15 0 samples))
+
+  pub all-stored : 15 ≤ i → room ≡ written room₀ at (pairs 15 0 samples)
+  all-stored all = writes.done room₀ (pairs 15 0 samples) room at i whole-fits of-them is (omega (arith, length-pairs 15 0 samples))
+
+pub all-small : (samples : List ℕ) → allAllowed 30 0 samples ≡ true → (j : ℕ) → j < 30 → getD samples j 0 < 16
+all-small samples fair j h = rw (zero-add j) at (ltb-true (getD samples (0 + j) 0) 16 (each-passes (allowed-looks samples) 30 0 fair j h))
+
 module _ (samples : List ℕ) (small : (j : ℕ) → j < 30 → getD samples j 0 < 16) where
-  cut-same : (n k : ℕ) → k + n ≤ 15 → pairsCut n k samples ≡ pairs n k samples
-  unfolding pairsCut pairs
-  cut-same zero k h = refl
-  cut-same (suc n) k h =
-      let low : getD samples (k + k) 0 < 16 = small (k + k) (omega arith) in
-      let high : getD samples (k + k + 1) 0 < 16 = small (k + k + 1) (omega arith) in
-      let same : pairCut samples k ≡ pairAt samples k = omega arith in
-      ap₂ (λ (x : ℕ) (l : List ℕ). x ∷ l) same (cut-same n (suc k) (omega arith))
-
   -- two samples of each pair come back
   pairs-halves : (n k : ℕ) → k + n ≤ 15 → length samples ≡ 30 → halves (pairs n k samples) ≡ take (n + n) (drop (k + k) samples)
   unfolding pairs halves
@@ -78,14 +99,6 @@ module _ (samples : List ℕ) (small : (j : ℕ) → j < 30 → getD samples j 0
       ∙ ap (take (suc (suc (n + n)))) (drop-cons samples (k + k) 0 (omega arith))
       ∙ ap (λ (l : List ℕ). getD samples (k + k) 0 ∷ take (suc (n + n)) l) (drop-cons samples (suc (k + k)) 0 (omega arith)))
 
-first-same : (alarm : Bool) (sequence : ℕ) → sequence ≤ 127 → cond alarm (128 + sequence % 128) (sequence % 128) ≡ cond alarm 128 0 + sequence
-first-same true sequence h = omega arith
-first-same false sequence h = omega arith
-
-pub head-is : (s : Signalling) → Fitting s → signallingHead s ≡ firstOctet s ∷ pairs 15 0 (s .samples)
-head-is s f =
-    ap₂ (λ (x : ℕ) (l : List ℕ). x ∷ l) (first-same (s .alarm) (s .sequence .0) (f .within)) (cut-same (s .samples) (all-small s f) 15 0 (omega arith))
-
 alarm-back : (alarm : Bool) (sequence : ℕ) → sequence ≤ 127 → (eqb ((cond alarm 128 0 + sequence) / 128) 1 ≡ alarm) × ((cond alarm 128 0 + sequence) % 128 ≡ sequence)
 alarm-back true sequence h = let one : (128 + sequence) / 128 ≡ 1 = omega arith in (rw one, omega arith)
 alarm-back false sequence h = let none : (0 + sequence) / 128 ≡ 0 = omega arith in (rw none, omega arith)
@@ -95,7 +108,7 @@ signalling-reads-back s octets whole e =
     let f = fitting s octets e in
     let first = alarm-back (s .alarm) (s .sequence .0) (f .within) in
     let samples : halves (pairs 15 0 (s .samples)) ≡ s .samples =
-    pairs-halves (s .samples) (all-small s f) 15 0 (omega arith) whole ∙ take-all 30 (s .samples) (omega arith)
+    pairs-halves (s .samples) (all-small (s .samples) (f .fair)) 15 0 (omega arith) whole ∙ take-all 30 (s .samples) (omega arith)
     in
     rw (same-made _ octets (firstOctet s ∷ pairs 15 0 (s .samples)) e (made-octets s f))
     (cases.right (firstOctet s ∷ pairs 15 0 (s .samples)) (ap suc (length-pairs 15 0 (s .samples))) ∙ rw (first .0, first .1, samples))
@@ -110,14 +123,6 @@ half-small (x ∷ l) o (suc (suc j)) = half-small l (λ i. o (suc i)) j
 
 small-allowed : (n i : ℕ) (samples : List ℕ) → ((j : ℕ) → getD samples j 0 < 16) → allAllowed n i samples ≡ true
 small-allowed n i samples h = all-pass (allowed-looks samples) n i (λ j less. lt-ltb (getD samples (i + j) 0) 16 (h (i + j)))
-
-pair-at : (n k : ℕ) (samples : List ℕ) (j : ℕ) → j < n → getD (pairs n k samples) j 0 ≡ pairAt samples (k + j)
-unfolding pairs
-pair-at zero k samples j h = absurd (not-suc-le-zero h)
-pair-at (suc n) k samples zero h = rw (add-zero k)
-pair-at (suc n) k samples (suc j) h =
-    let same : suc k + j ≡ k + suc j = omega arith in
-    pair-at n (suc k) samples j (le-of-suc-le-suc h) ∙ ap (pairAt samples) same
 
 halves-pairs : (l : List ℕ) → length l ≡ 15 → pairs 15 0 (halves l) ≡ l
 halves-pairs l whole =

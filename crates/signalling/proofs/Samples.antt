@@ -1,15 +1,14 @@
--- Samples looked at one by one, and put into octets two by two.
+-- Samples looked at one by one.
 use Prim.Native.Nat.{ℕ, zero, suc, _+_, _-_, _<_, _≤_}
-use mathlib.Core.Path.{_≡_, refl, sym, ap, _∙_}
-use mathlib.Core.List.{List, _∷_, append-nil}
+use mathlib.Core.Path.{_≡_, refl, sym, _∙_}
+use mathlib.Core.List.{List}
 use mathlib.Core.Bool.{Bool, true, false, cond}
 use native.Mathlib.Nat.{not-suc-le-zero, le-of-suc-le-suc, add-zero}
 use native.Mathlib.Omega.{arith}
-use lib.ListN.{length, getD, take, set, replicate}
-use lib.Seq.{paste, paste-zero, paste-suc, take-all}
+use lib.ListN.{getD}
 use lib.Dec.{eqb}
 use Rattle.octets.proofs.Order.{clash, either}
-use Rattle.signalling.specs.Layout.{allowed, allAllowed, pairCut, pairsCut}
+use Rattle.signalling.specs.Layout.{allowed, allAllowed}
 use Rattle.signalling.specs.Sender.{allEqual}
 
 -- Samples looked at one by one: of n samples, after i turns what is left to be looked at decides.
@@ -62,48 +61,3 @@ module _ {test : ℕ → Bool} {look : ℕ → ℕ → Bool} (looks : Looks test
   all-pass (suc n) i h =
       let first : test i ≡ true = rw (add-zero i) at (h 0 (omega arith)) in
       looks .more n i ∙ rw first (all-pass n (suc i) (λ j less. let next : suc i + j ≡ i + suc j = omega arith in rw next (h (suc j) (omega arith))))
-
--- the octets of the pairs, by their places
-pub length-pairs : (n k : ℕ) (samples : List ℕ) → length (pairsCut n k samples) ≡ n
-unfolding pairsCut
-length-pairs zero k samples = refl
-length-pairs (suc n) k samples = ap suc (length-pairs n (suc k) samples)
-
-pair-at : (n k : ℕ) (samples : List ℕ) (j : ℕ) → j < n → getD (pairsCut n k samples) j 0 ≡ pairCut samples (k + j)
-unfolding pairsCut
-pair-at zero k samples j h = absurd (not-suc-le-zero h)
-pair-at (suc n) k samples zero h = rw (add-zero k)
-pair-at (suc n) k samples (suc j) h =
-    let same : suc k + j ≡ k + suc j = omega arith in
-    pair-at n (suc k) samples j (le-of-suc-le-suc h) ∙ ap (pairCut samples) same
-
-module _ (samples octets₀ : List ℕ) (sixteen : length octets₀ ≡ 16) where
-  abbrev pub packed : ℕ → List ℕ
-  packed i = paste octets₀ 1 (pairsCut 15 0 samples) i
-
-  pub begins : octets₀ ≡ packed 0
-  begins = paste-zero octets₀ 1 (pairsCut 15 0 samples)
-
-  pub turn : (octets : List ℕ) (i : ℕ) → i < 15 → octets ≡ packed i → set octets (i + 1) (pairCut samples i) ≡ packed (i + 1)
-  turn octets i less is =
-      let many = length-pairs 15 0 samples in
-      let value : getD (pairsCut 15 0 samples) i 0 ≡ pairCut samples i = pair-at 15 0 samples i less ∙ ap (pairCut samples) (omega arith) in
-      let place : i + 1 ≡ 1 + i = omega arith in
-      let next : suc i ≡ i + 1 = omega arith in
-      rw (is, ← value)
-      (ap (λ (k : ℕ). set (packed i) k (getD (pairsCut 15 0 samples) i 0)) place
-      ∙ paste-suc octets₀ 1 (pairsCut 15 0 samples) i 0 (omega arith) (omega arith)
-      ∙ ap packed next)
-
-pub done :
-    (samples : List ℕ) (first : ℕ) (octets : List ℕ) (i : ℕ)
-    → i ≤ 15
-    → 15 ≤ i
-    → octets ≡ packed samples (first ∷ replicate 15 0) refl i
-    → octets ≡ first ∷ pairsCut 15 0 samples
-done samples first octets i most least is =
-    let all : i ≡ 15 = omega arith in
-    is
-    ∙ ap (packed samples (first ∷ replicate 15 0) refl) all
-    ∙ append-nil (first ∷ take 15 (pairsCut 15 0 samples))
-    ∙ ap (λ (l : List ℕ). first ∷ l) (take-all 15 (pairsCut 15 0 samples) (omega (arith, length-pairs 15 0 samples)))

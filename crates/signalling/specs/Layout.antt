@@ -53,20 +53,6 @@ pairs (suc n) i samples = pairAt samples i ∷ pairs n (suc i) samples
 abbrev pub firstOctet : Signalling → ℕ
 firstOctet s = cond (s .alarm) 128 0 + s .sequence .0
 
--- the same octets, for every content that a struct can hold
-abbrev pub firstHead : Signalling → ℕ
-firstHead s = cond (s .alarm) (128 + s .sequence .0 % 128) (s .sequence .0 % 128)
-
-abbrev pub pairCut : List ℕ → ℕ → ℕ
-pairCut samples i = getD samples (i + i) 0 % 16 + getD samples (i + i + 1) 0 % 16 * 16
-
-unfoldable pub pairsCut : ℕ → ℕ → List ℕ → List ℕ
-pairsCut zero i samples = []
-pairsCut (suc n) i samples = pairCut samples i ∷ pairsCut n (suc i) samples
-
-abbrev pub signallingHead : Signalling → List ℕ
-signallingHead s = firstHead s ∷ pairsCut 15 0 (s .samples)
-
 unfoldable pub signallingMade : Signalling → Made
 signallingMade s =
     cond (ltb 127 (s .sequence .0)) (unmade valueOutOfRange)

@@ -4,8 +4,11 @@ use octets::Fit;
 use octets::Put;
 ghost use mathlib.Core.Path.{_≡_};
 ghost use lib.ListN.{length, drop};
+ghost use mathlib.Core.Bool.{true, cond};
+ghost use Prim.Native.Nat.{_+_, _≤_};
+ghost use Rattle.octets.specs.Room.{written};
 ghost use Rattle.octets.specs.Made.{fitOf, putMade, leftMade};
-ghost use Rattle.signalling.specs.Layout.{halves, allowed, signallingRead, allAllowed, firstHead, signallingHead, signallingMade};
+ghost use Rattle.signalling.specs.Layout.{halves, allowed, signallingRead, allAllowed, pairs, signallingMade};
 
 // A signalling payload: the alarm bit, and 30 samples of four bits, oldest first.
 pub struct Signalling {
@@ -97,29 +100,25 @@ pub fn fit_signalling(signalling: Signalling) -> Fit
     Fit::Unfit(refusal::VALUE_OUT_OF_RANGE)
 }
 
-// The octets of a signalling payload that fits.
-fn signalling_octets(signalling: Signalling) -> [u8; 16]
-    ensures { λ r. ⌜ r ≡ signallingHead signalling ⌝ }
+// The first octet; of the sequence there are seven bits.
+fn first_octet(alarm: bool, sequence: u8) -> u8
+    requires { ⌜ sequence ≤ 127 ⌝ }
+    ensures { λ r. ⌜ r ≡ cond alarm 128 0 + sequence ⌝ }
 {
-    let samples = signalling.samples;
-    let mut octets = [0u8; 16];
-    octets[0] = first_octet(signalling);
-    let mut i: usize = 0;
-    while i < 15 {
-        octets[i + 1] = samples[i + i] % 16 + samples[i + i + 1] % 16 * 16;
-        i += 1;
-    }
-    octets
+    if alarm { 128 + sequence } else { sequence }
 }
 
-fn first_octet(signalling: Signalling) -> u8
-    ensures { λ r. ⌜ r ≡ firstHead signalling ⌝ }
+// Stores the fifteen octets of thirty allowed samples.
+fn store_samples(room: &mut [u8], at: usize, samples: &[u8])
+    requires { ⌜ (length (now samples) ≡ 30) × (allAllowed 30 0 (now samples) ≡ true) × (at + 15 ≤ length (now room)) ⌝ }
+    ensures { λ r. ⌜ now (room .exit) ≡ written (now (room .entry)) at (pairs 15 0 (now (samples .entry))) ⌝ }
 {
-    let sequence = signalling.sequence.0 % 128;
-    if signalling.alarm {
-        128 + sequence
-    } else {
-        sequence
+    let mut i: usize = 0;
+    while i < 15 {
+        let low = samples[i + i];
+        let high = samples[i + i + 1];
+        room[at + i] = low + high * 16;
+        i += 1;
     }
 }
 
@@ -130,9 +129,14 @@ pub fn put_signalling(room: &mut [u8], at: usize, signalling: Signalling) -> Put
 {
     match fit_signalling(signalling) {
         Fit::Unfit(number) => Put::NotWritten(number),
-        Fit::Octets(_) => {
-            let head = signalling_octets(signalling);
-            octets::put_both(room, at, &head, b"")
+        Fit::Octets(size) => {
+            if octets::exceeds(room.len(), at, size) {
+                return Put::NotWritten(refusal::ROOM_TOO_SMALL);
+            }
+            room[at] = first_octet(signalling.alarm, signalling.sequence.0);
+            let samples = signalling.samples;
+            store_samples(room, at + 1, &samples);
+            Put::Written(at + size)
         }
     }
 }
