@@ -1,5 +1,5 @@
 -- What `dataRead` and `dataMade` give in each of their cases.
-use Prim.Native.Nat.{ℕ, _+_, _/_, _%_, _<_, _≤_}
+use Prim.Native.Nat.{ℕ, _+_, _<_, _≤_}
 use mathlib.Core.Path.{_≡_, ap, _∙_}
 use mathlib.Core.List.{List, _∷_}
 use mathlib.Core.Bool.{Bool, true, false, cond}
@@ -11,7 +11,7 @@ use Rattle.refusal.specs.Numbers.{lengthWrong, reservedCode, valueOutOfRange}
 use Rattle.octets.specs.declared.Fit.the-variants.{Octets}
 use Rattle.octets.specs.Made.{made, unmade, fitOf}
 use Rattle.octets.proofs.Order.{lt-or-le}
-use Rattle.octets.proofs.MadeBack.{octets-made, never-made}
+use Rattle.octets.proofs.MadeBack.{never-made}
 use Rattle.data.specs.declared.DataRead.the-variants.{Fragment, BadData}
 use Rattle.data.specs.Data.{beginsIn, endsIn, thirdBit, sequenceIn, judged, dataRead, firstOctet, secondOctet, dataMade}
 
@@ -66,19 +66,6 @@ module _ (begins ends : Bool) (sequence : ℕ) (body : List ℕ) where
 
     pub in-range : sequence ≤ 8191
     in-range = ⊎-elim (λ h. never-made _ _ _ (made-beyond has-body h) e) (λ h. h) (lt-or-le 8191 sequence)
-
-  -- where it fits, the octets that the code writes are made
-  pub written :
-      (n x y : ℕ)
-      → fitOf (dataMade begins ends sequence body) ≡ Octets n
-      → x ≡ cond begins 128 0
-      → y ≡ cond ends 64 0
-      → dataMade begins ends sequence body ≡ made ((x + y + sequence / 256 % 32) ∷ sequence % 256 ∷ body)
-  written n x y fits p q =
-      let m = octets-made (dataMade begins ends sequence body) n fits in
-      let h : sequence ≤ 8191 = in-range (m .0) (m .1) in
-      let high : sequence / 256 % 32 ≡ sequence / 256 = omega arith in
-      rw (high, p, q) (made-right (has-body (m .0) (m .1)) h)
 
 pub bit-small : (set : Bool) (place : ℕ) → cond set place 0 ≤ place
 bit-small true place = omega arith

@@ -82,11 +82,15 @@ pub fn put_data(
 {
     match fit_data(sequence, body) {
         Fit::Unfit(number) => Put::NotWritten(number),
-        Fit::Octets(_) => {
-            let high = (sequence.0 / 256 % 32) as u8;
+        Fit::Octets(size) => {
+            if octets::exceeds(room.len(), at, size) {
+                return Put::NotWritten(refusal::ROOM_TOO_SMALL);
+            }
+            let high = (sequence.0 / 256) as u8;
             let low = (sequence.0 % 256) as u8;
-            let head = [bit(begins, 128) + bit(ends, 64) + high, low];
-            octets::put_both(room, at, &head, body)
+            room[at] = bit(begins, 128) + bit(ends, 64) + high;
+            room[at + 1] = low;
+            octets::put_octets(room, at + 2, body)
         }
     }
 }
