@@ -1,7 +1,7 @@
 -- `digits::layout::store_digits` meets its contract: the first two octets, then one window behind the other.
-use Prim.Native.Nat.{ℕ, _+_, _≤_}
-use mathlib.Core.Path.{_≡_, refl, sym, ap, _∙_}
-use mathlib.Core.List.{List, [], _∷_, _++_}
+use Prim.Native.Nat.{_+_, _≤_}
+use mathlib.Core.Path.{_≡_, refl}
+use mathlib.Core.List.{[], _∷_, _++_}
 use native.Mathlib.Omega.{arith}
 use mir.Syntax.{w8}
 use mir.ValLaws.{toZ-ofZ}

@@ -1,12 +1,8 @@
 -- `digits::layout::store_window` meets its contract: the two octets are those of the window's layout.
-use Prim.Native.Nat.{ℕ, _+_, _≤_}
-use mathlib.Core.Path.{_≡_, ap₂, _∙_}
+use Prim.Native.Nat.{_+_, _≤_}
 use native.Mathlib.Nat.{zero-add}
 use native.Mathlib.Omega.{arith}
-use mathlib.Core.Bool.{cond}
-use mathlib.Core.List.{[], _∷_}
 use lib.ListN.{length-set}
-use Rattle.octets.specs.Room.{written}
 use Rattle.octets.proofs.Writes as writes
 use Rattle.digits.proofs.LayoutBack as layout
 use borrow.Author.Needs.{needs}

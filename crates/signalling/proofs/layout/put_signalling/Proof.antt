@@ -1,12 +1,12 @@
 -- `signalling::layout::put_signalling` meets its contract: what fits is made, and past the test its octets have their room.
 use Prim.Native.Nat.{ℕ, suc, _+_, _≤_}
 use mathlib.Core.Path.{_≡_, refl, sym, ap, _∙_}
-use mathlib.Core.List.{List, [], _∷_}
+use mathlib.Core.List.{[], _∷_}
 use native.Mathlib.Omega.{arith}
 use lib.ListN.{length, length-set}
 use Rattle.octets.specs.declared.Fit.the-variants.{Octets}
 use Rattle.octets.specs.Room.{written}
-use Rattle.octets.specs.Made.{made, fitOf}
+use Rattle.octets.specs.Made.{fitOf}
 use Rattle.octets.proofs.MadeBack as back
 use Rattle.octets.proofs.Writes as writes
 use Rattle.signalling.specs.Layout.{pairs, firstOctet, signallingMade}

@@ -2,7 +2,7 @@
 use Prim.Native.Nat.{ℕ, _+_, _-_, _<_, _≤_}
 use mathlib.Core.Path.{_≡_}
 use native.Mathlib.Omega.{arith}
-use lib.ListN.{length, getD}
+use lib.ListN.{getD}
 use lib.Seq.{paste, paste-zero}
 use Rattle.signalling.specs.Layout.{pairs}
 use Rattle.signalling.proofs.LayoutBack as layout
