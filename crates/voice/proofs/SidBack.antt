@@ -6,7 +6,7 @@ use mathlib.Core.Bool.{true, false, cond}
 use mathlib.Core.Logic.{_⊎_, inl, inr, ⊎-elim}
 use native.Mathlib.Nat.{mod-mod}
 use native.Mathlib.Omega.{arith}
-use lib.ListN.{length, getD, take}
+use lib.ListN.{length, getD}
 use lib.IntN.{ℤ, negℤ, pos}
 use Rattle.octets.proofs.Order.{lt-or-le, eq-or-ne}
 use Rattle.octets.proofs.MadeBack.{same-made, never-made}
@@ -24,7 +24,7 @@ use Rattle.voice.specs.declared.sid.Sid.the-variants.{Noise, Plain}
 use Rattle.voice.specs.declared.sid.SidRead.{SidRead}
 use Rattle.voice.specs.declared.sid.SidRead.the-variants.{Silence, BadSid}
 use Rattle.voice.specs.Voice.{codings}
-use Rattle.voice.specs.Sid.{sidOctets, sidRead, noiseMade, withNoise, withoutNoise, sidMade, noiseHead, sidHead}
+use Rattle.voice.specs.Sid.{sidOctets, sidRead, noiseMade, withNoise, withoutNoise, sidMade}
 use Rattle.voice.specs.Claims.{SidReadsBack, SidMadeAgain, SidReadAlike, unreserved}
 use Rattle.voice.proofs.SidCases as cases
 
@@ -82,27 +82,31 @@ split syntax sid octets e =
     ))
     (eq-or-ne (codings syntax) 0)
 
-noise-two : (s : ℕ) (c : Coded) → length (noiseHead s c) ≡ 2
-noise-two s (Code m) = refl
-noise-two s Above = refl
-noise-two s Below = refl
+-- what is made of a descriptor with noise, and of one without
+never-plain : {A : Type 0} (s : VoiceCount) (z : ℤ) → Noise s z ≡ Plain → A
+never-plain s z e = let z : _≡_ {A = ℕ} 0 1 = cc in absurd (omega arith)
 
-pub head-two : (sid : Sid) → length (sidHead sid) ≡ 2
-head-two (Noise s z) = noise-two (s .0) (codeOf 63 z)
-head-two Plain = refl
+never-noise : {A : Type 0} (s : VoiceCount) (z : ℤ) → Plain ≡ Noise s z → A
+never-noise s z e = never-plain s z (sym e)
 
-pub made-head :
-    (syntax : Syntax) (sid : Sid) (octets : List ℕ)
-    → sidMade syntax sid ≡ made octets
-    → (length octets ≤ 2) × (take (length octets) (sidHead sid) ≡ octets)
-made-head syntax sid octets e =
-    ⊎-elim (λ w. (rw (w .2) (omega arith), rw (w .2)))
+pub noise-octets :
+    (syntax : Syntax) (s : VoiceCount) (z : ℤ) (code : ℕ) (octets : List ℕ)
+    → sidMade syntax (Noise s z) ≡ made octets
+    → ((magnitude : ℕ) → codeOf 63 z ≡ Code magnitude → code ≡ magnitude)
+    → (s .0 ≤ 15) × (octets ≡ (s .0 * 16) ∷ code ∷ [])
+noise-octets syntax s z code octets e told =
+    ⊎-elim (λ w. never-plain s z (w .1))
     (λ w.
     let d = w .1 in
-    let small = d .small in
-    let same : d .sequence % 16 * 16 ≡ d .sequence * 16 = omega arith in
-    (rw (d .octets-are) (omega arith), rw (d .octets-are, d .is, d .coded, same)))
-    (split syntax sid octets e .1)
+    let is = d .is in
+    let sequence : s ≡ record { 0 = d .sequence } = cc in
+    let level : z ≡ d .level = cc in
+    let same : code ≡ d .magnitude = told (d .magnitude) (ap (codeOf 63) level ∙ d .coded) in
+    (rw sequence (d .small), d .octets-are ∙ rw (sequence, same)))
+    (split syntax (Noise s z) octets e .1)
+
+pub plain-octets : (syntax : Syntax) (octets : List ℕ) → sidMade syntax Plain ≡ made octets → octets ≡ []
+plain-octets syntax octets e = ⊎-elim (λ w. w .2) (λ w. never-noise _ _ (w .1 .is)) (split syntax Plain octets e .1)
 
 pub sid-reads-back : SidReadsBack
 sid-reads-back syntax sid octets e =

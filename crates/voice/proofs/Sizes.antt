@@ -1,13 +1,13 @@
 -- The sizes of voice payloads: their cases and bounds.
 use Prim.Native.Nat.{ℕ, zero, suc, _+_, _*_, _%_, _<_, _≤_}
-use mathlib.Core.Path.{_≡_, refl, sym, ap, _∙_}
+use mathlib.Core.Path.{_≡_, refl}
 use mathlib.Core.Bool.{Bool, true, false, cond}
 use mathlib.Core.List.{List, [], _∷_, _++_}
 use mathlib.Core.Logic.{⊎-elim}
 use native.Mathlib.Omega.{arith}
 use borrow.Author.Tests.{eq-eqb, ne-eqb}
 use lib.Dec.{eqb}
-use lib.ListN.{length, take, length-append}
+use lib.ListN.{length, length-append}
 use Rattle.octets.proofs.Order.{eq-or-ne}
 use Rattle.octets.proofs.Table.{atMost, entries}
 use Rattle.record.specs.declared.syntax.Syntax.{Syntax}
@@ -86,15 +86,9 @@ codings-small G7231 = omega arith
 codings-small Data = omega arith
 codings-small Fax = omega arith
 
--- the head that the code makes is the front octet, where there is one
-pub front-head :
-    (front sequence coding : ℕ)
-    → front ≤ 1
-    → sequence ≤ mostSequence front
-    → coding ≤ 15
-    → cond (eqb front 0) [] ((sequence * 16 + coding) ∷ []) ≡ take front ((sequence % 16 * 16 + coding % 16) ∷ [])
-front-head zero sequence coding h s c = refl
-front-head (suc zero) sequence coding h s c =
-    let same : sequence * 16 + coding ≡ sequence % 16 * 16 + coding % 16 = omega arith in
-    ap (λ (x : ℕ). x ∷ []) same
-front-head (suc (suc n)) sequence coding h s c = absurd (omega arith)
+pub most-small : (front : ℕ) → mostSequence front ≤ 15
+most-small front = either-way (eqb front 0)
+  where
+    either-way : (none : Bool) → cond none 0 15 ≤ 15
+    either-way true = omega arith
+    either-way false = omega arith

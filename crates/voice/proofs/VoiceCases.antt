@@ -166,3 +166,18 @@ pub front-made :
     → Fitting r sequence coding body
     → voiceMade r sequence coding body ≡ made (cond (eqb (frontOf r) 0) [] ((sequence * 16 + coding) ∷ []) ++ body)
 front-made r s c b f = made-right r s c b (f .voice) (f .there) (f .known) (f .free) (f .whole) (f .carried)
+
+-- the same, without a front octet and with it
+pub bare-made :
+    (r : Record) (sequence coding : ℕ) (body : List ℕ)
+    → Fitting r sequence coding body
+    → frontOf r ≡ 0
+    → voiceMade r sequence coding body ≡ made body
+bare-made r s c b f none = front-made r s c b f ∙ simp (eq-eqb (frontOf r) 0 none)
+
+pub fronted-made :
+    (r : Record) (sequence coding : ℕ) (body : List ℕ)
+    → Fitting r sequence coding body
+    → (frontOf r ≡ 0 → ⊥)
+    → voiceMade r sequence coding body ≡ made ((sequence * 16 + coding) ∷ body)
+fronted-made r s c b f some = front-made r s c b f ∙ simp (ne-eqb (frontOf r) 0 some)

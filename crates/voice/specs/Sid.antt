@@ -1,6 +1,6 @@
 -- Silence descriptors (document 01, "Payload types": SID). "Under pcm and g727, two octets: sequence in bits 8 to 5, six
 -- reserved bits (written 0, ignored on reading), six bits of noise level". "Under acelp, g728, g7231: empty".
-use Prim.Native.Nat.{ℕ, _*_, _/_, _%_}
+use Prim.Native.Nat.{ℕ, _*_, _/_}
 use mathlib.Core.List.{List, [], _∷_}
 use mathlib.Core.Bool.{cond}
 use lib.Dec.{ltb, eqb}
@@ -54,13 +54,3 @@ withoutNoise Plain = made []
 unfoldable pub sidMade : Syntax → Sid → Made
 sidMade syntax sid =
     cond (eqb (codings syntax) 0) (unmade typeNotAllowed) (cond (eqb (sidOctets syntax) 0) (withoutNoise sid) (withNoise sid))
-
--- the octets of a descriptor with noise; where it is not made, they are not looked at
-abbrev pub noiseHead : ℕ → Coded → List ℕ
-noiseHead sequence (Code magnitude) = (sequence % 16 * 16) ∷ magnitude ∷ []
-noiseHead sequence Above = 0 ∷ 0 ∷ []
-noiseHead sequence Below = 0 ∷ 0 ∷ []
-
-abbrev pub sidHead : Sid → List ℕ
-sidHead (Noise sequence level) = noiseHead (sequence .0) (codeOf 63 level)
-sidHead Plain = 0 ∷ 0 ∷ []

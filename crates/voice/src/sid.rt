@@ -5,8 +5,11 @@ use octets::Fit;
 use octets::Put;
 use record::syntax::Syntax;
 ghost use mathlib.Core.Path.{_≡_};
+ghost use Prim.Native.Nat.{ℕ};
+ghost use Rattle.levels.specs.declared.Coded.the-variants.{Code};
+ghost use Rattle.levels.specs.Level.{codeOf};
 ghost use Rattle.octets.specs.Made.{fitOf, putMade, leftMade};
-ghost use Rattle.voice.specs.Sid.{sidOctets, sidRead, sidMade, sidHead};
+ghost use Rattle.voice.specs.Sid.{sidOctets, sidRead, sidMade};
 
 // What a silence descriptor carries: the noise level, 0 to -63 dBm0, or nothing.
 pub enum Sid {
@@ -86,17 +89,14 @@ pub fn fit_sid(syntax: Syntax, sid: Sid) -> Fit
     }
 }
 
-// The octets of a descriptor with noise.
-fn sid_head(sid: Sid) -> [u8; 2]
-    ensures { λ r. ⌜ r ≡ sidHead sid ⌝ }
+// The magnitude of a noise level that has one.
+fn noise_code(level: i8) -> u8
+    ensures { λ r. ⌜ ((magnitude : ℕ) → codeOf 63 level ≡ Code magnitude → r ≡ magnitude) ⌝ }
 {
-    match sid {
-        Sid::Noise { sequence, level } => match levels::code_of(level, 63) {
-            Coded::Code(magnitude) => [sequence.0 % 16 * 16, magnitude],
-            Coded::Above => [0, 0],
-            Coded::Below => [0, 0],
-        },
-        Sid::Plain => [0, 0],
+    match levels::code_of(level, 63) {
+        Coded::Code(magnitude) => magnitude,
+        Coded::Above => 0,
+        Coded::Below => 0,
     }
 }
 
@@ -108,8 +108,18 @@ pub fn put_sid(room: &mut [u8], at: usize, syntax: Syntax, sid: Sid) -> Put
     match fit_sid(syntax, sid) {
         Fit::Unfit(number) => Put::NotWritten(number),
         Fit::Octets(size) => {
-            let head = sid_head(sid);
-            octets::put_both(room, at, &head[..size], b"")
+            if octets::exceeds(room.len(), at, size) {
+                return Put::NotWritten(refusal::ROOM_TOO_SMALL);
+            }
+            match sid {
+                Sid::Noise { sequence, level } => {
+                    let code = noise_code(level);
+                    room[at] = sequence.0 * 16;
+                    room[at + 1] = code;
+                    Put::Written(at + 2)
+                }
+                Sid::Plain => Put::Written(at),
+            }
         }
     }
 }

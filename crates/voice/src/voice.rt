@@ -234,10 +234,15 @@ pub fn put_voice(
 {
     match fit_voice(rec, sequence, coding, body) {
         Fit::Unfit(number) => Put::NotWritten(number),
-        Fit::Octets(_) => {
-            let head = [sequence.0 % 16 * 16 + coding % 16];
-            let front = front_size(rec);
-            octets::put_both(room, at, &head[..front], body)
+        Fit::Octets(size) => {
+            if octets::exceeds(room.len(), at, size) {
+                return Put::NotWritten(refusal::ROOM_TOO_SMALL);
+            }
+            if front_size(rec) == 0 {
+                return octets::put_octets(room, at, body);
+            }
+            room[at] = sequence.0 * 16 + coding;
+            octets::put_octets(room, at + 1, body)
         }
     }
 }
