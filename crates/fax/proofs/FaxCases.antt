@@ -1,24 +1,24 @@
 -- What `judged`, `faxRead` and `faxMade` give in each of their cases.
-use Prim.Native.Nat.{ℕ, _+_, _-_, _/_, _%_, _<_, _≤_}
+use Prim.Native.Nat.{ℕ, _+_, _-_, _<_, _≤_}
 use mathlib.Core.Path.{_≡_, refl, sym, ap, _∙_}
-use mathlib.Core.List.{List, [], _∷_, _++_}
+use mathlib.Core.List.{List, _++_}
 use mathlib.Core.Bool.{Bool, true, false, cond}
 use mathlib.Core.Logic.{⊎-elim}
 use native.Mathlib.Omega.{arith}
 use borrow.Author.Tests.{lt-ltb, le-ltb, eq-eqb, ne-eqb}
 use lib.Dec.{ltb}
-use lib.ListN.{length, getD, take, length-append}
+use lib.ListN.{length, getD, length-append}
 use Rattle.refusal.specs.Numbers.{lengthWrong, reservedCode, valueOutOfRange}
 use Rattle.octets.specs.declared.Fit.the-variants.{Octets}
 use Rattle.octets.specs.Made.{made, unmade, fitOf}
 use Rattle.octets.proofs.Order.{lt-or-le}
-use Rattle.octets.proofs.MadeBack.{octets-made, never-made}
+use Rattle.octets.proofs.MadeBack.{never-made}
 use Rattle.fax.specs.declared.Stamp.{Stamp}
 use Rattle.fax.specs.declared.Stamp.the-variants.{NoStamp, Stamped}
 use Rattle.fax.specs.declared.Command.{Command}
 use Rattle.fax.specs.declared.Command.the-variants.{Off, On, Page, EndOfFrame, Abort}
 use Rattle.fax.specs.declared.FaxRead.the-variants.{Fax, BadFax}
-use Rattle.fax.specs.Fax.{unstamped, frontOf, bodySized, toneRefused, refusedOn, ei1In, sequenceIn, codeIn, stampIn, ei2In, commandIn, spareIn, judged, told, faxRead, stampNumber, firstOctet, headOctets, onOctetOf, frequencyOf, faxMade}
+use Rattle.fax.specs.Fax.{unstamped, stampSize, commandSize, frontOf, bodySized, toneRefused, refusedOn, ei1In, sequenceIn, codeIn, stampIn, ei2In, commandIn, spareIn, judged, told, faxRead, stampNumber, stampOctets, commandOctets, headOctets, faxMade}
 use Rattle.fax.proofs.Tests as tests
 
 module _ (n code ei2 spare sequence : ℕ) (stamp : Stamp) (command : Command) where
@@ -175,6 +175,10 @@ head-size sequence (Stamped t) Page = refl
 head-size sequence (Stamped t) EndOfFrame = refl
 head-size sequence (Stamped t) Abort = refl
 
+pub front-is : (stamp : Stamp) (command : Command) → frontOf stamp command ≡ 1 + stampSize stamp + commandSize command
+unfolding frontOf
+front-is stamp command = refl
+
 pub head-some : (sequence : ℕ) (stamp : Stamp) (command : Command) (body : List ℕ) → 1 ≤ length (headOctets sequence stamp command ++ body)
 head-some sequence stamp command body = omega arith
 
@@ -193,46 +197,14 @@ fit-right sequence stamp command body front is p =
 pub modulation-small : (m f : ℕ) → toneRefused m f ≡ false → m ≤ 11
 modulation-small m f free = ⊎-elim (λ h. not-both (toneRefused m f) (tests.beyond m f h) free) (λ h. h) (lt-or-le 11 m)
 
--- the six octets that the code has in front, of which `frontOf` are written
-abbrev pub six : ℕ → ℕ → ℕ → ℕ → List ℕ
-six first time on tone = first ∷ (time % 256) ∷ (time / 256) ∷ on ∷ (tone % 256) ∷ (tone / 256) ∷ []
+-- the octets of a stamp, and of a command
+pub stamp-length : (stamp : Stamp) → length (stampOctets stamp) ≡ stampSize stamp
+stamp-length NoStamp = refl
+stamp-length (Stamped time) = refl
 
-head-is :
-    (sequence : ℕ) (stamp : Stamp) (command : Command)
-    → unstamped stamp command ≡ false
-    → refusedOn command ≡ false
-    → headOctets sequence stamp command
-    ≡ take (frontOf stamp command) (six (firstOctet sequence stamp command) (stampNumber stamp) (onOctetOf command) (frequencyOf command))
-unfolding frontOf
-head-is sequence NoStamp Off st ta = not-both false (sym st) refl
-head-is sequence NoStamp (On h m f) st ta = not-both false (sym st) refl
-head-is sequence NoStamp Page st ta = refl
-head-is sequence NoStamp EndOfFrame st ta = refl
-head-is sequence NoStamp Abort st ta = refl
-head-is sequence (Stamped t) Off st ta = refl
-head-is sequence (Stamped t) (On h m f) st ta =
-    let small : m ≤ 11 = modulation-small m f ta in
-    let low : m % 16 ≡ m = omega arith in
-    rw low
-head-is sequence (Stamped t) Page st ta = refl
-head-is sequence (Stamped t) EndOfFrame st ta = refl
-head-is sequence (Stamped t) Abort st ta = refl
-
--- where it fits, the octets that the code writes are made
-pub written :
-    (sequence : ℕ) (stamp : Stamp) (command : Command) (body : List ℕ) (n first time on tone front : ℕ)
-    → fitOf (faxMade sequence stamp command body) ≡ Octets n
-    → first ≡ firstOctet (sequence % 16) stamp command
-    → time ≡ stampNumber stamp
-    → on ≡ onOctetOf command
-    → tone ≡ frequencyOf command
-    → front ≡ frontOf stamp command
-    → faxMade sequence stamp command body ≡ made (take front (six first time on tone) ++ body)
-written sequence stamp command body n first time on tone front fits a b c d e =
-    let m = octets-made (faxMade sequence stamp command body) n fits in
-    let p = passed sequence stamp command body (m .0) (m .1) in
-    let small : sequence ≤ 15 = p .four-bits in
-    let low : sequence % 16 ≡ sequence = omega arith in
-    made-right sequence stamp command body (p .stamped) (p .sized) (p .taken) (p .four-bits) (p .in-range)
-    ∙ ap (λ (l : List ℕ). made (l ++ body)) (head-is sequence stamp command (p .stamped) (p .taken))
-    ∙ rw (a, b, c, d, e, low)
+pub command-length : (command : Command) → length (commandOctets command) ≡ commandSize command
+command-length Off = refl
+command-length (On hdlc modulation frequency) = refl
+command-length Page = refl
+command-length EndOfFrame = refl
+command-length Abort = refl

@@ -165,21 +165,6 @@ firstOctet sequence stamp command = ei1For stamp * 128 + sequence * 8 + codeOf c
 abbrev pub headOctets : ℕ → Stamp → Command → List ℕ
 headOctets sequence stamp command = firstOctet sequence stamp command ∷ (stampOctets stamp ++ commandOctets command)
 
--- what the code takes for the on octet, and for the frequency
-abbrev pub onOctetOf : Command → ℕ
-onOctetOf Off = 0
-onOctetOf (On hdlc modulation frequency) = onOctet hdlc (modulation % 16)
-onOctetOf Page = 0
-onOctetOf EndOfFrame = 0
-onOctetOf Abort = 0
-
-abbrev pub frequencyOf : Command → ℕ
-frequencyOf Off = 0
-frequencyOf (On hdlc modulation frequency) = frequency
-frequencyOf Page = 0
-frequencyOf EndOfFrame = 0
-frequencyOf Abort = 0
-
 -- The octets of a fax payload, for writing: the refusals in the reader's order, then 15 for a sequence or a stamp beyond its bits.
 unfoldable pub faxMade : ℕ → Stamp → Command → List ℕ → Made
 faxMade sequence stamp command body =

@@ -2,10 +2,12 @@
 use octets::Fit;
 use octets::Put;
 ghost use mathlib.Core.Path.{_≡_};
-ghost use mathlib.Core.Bool.{cond};
-ghost use Prim.Native.Nat.{_<_, _≤_, _%_};
+ghost use mathlib.Core.Bool.{false, cond};
+ghost use Prim.Native.Nat.{_+_, _<_, _≤_};
+ghost use lib.ListN.{length};
+ghost use Rattle.octets.specs.Room.{written};
 ghost use Rattle.octets.specs.Made.{fitOf, putMade, leftMade};
-ghost use Rattle.fax.specs.Fax.{needsStamp, unstamped, stampSize, commandSize, frontOf, isPage, bodySized, toneRefused, refusedOn, stampIn, ei2In, commandIn, spareIn, judged, faxRead, stampNumber, ei1For, codeOf, firstOctet, onOctetOf, frequencyOf, faxMade};
+ghost use Rattle.fax.specs.Fax.{needsStamp, unstamped, stampSize, commandSize, frontOf, isPage, bodySized, toneRefused, refusedOn, stampIn, ei2In, commandIn, spareIn, judged, faxRead, stampNumber, ei1For, stampOctets, commandOctets, codeOf, firstOctet, faxMade};
 
 // The largest sequence of 4 bits, the largest stamp of 15, and the last modulation of the table.
 const MOST_SEQUENCE: u8 = 15;
@@ -340,11 +342,12 @@ fn code_of(command: Command) -> u8
     }
 }
 
-// The first octet; of the sequence its low four bits.
+// The first octet.
 fn first_octet(sequence: u8, stamp: Stamp, command: Command) -> u8
-    ensures { λ r. ⌜ r ≡ firstOctet (sequence % 16) stamp command ⌝ }
+    requires { ⌜ sequence ≤ 15 ⌝ }
+    ensures { λ r. ⌜ r ≡ firstOctet sequence stamp command ⌝ }
 {
-    ei1_for(stamp) * 128 + sequence % 16 * 8 + code_of(command)
+    ei1_for(stamp) * 128 + sequence * 8 + code_of(command)
 }
 
 // A bit of an octet at its place, or 0.
@@ -354,37 +357,39 @@ fn bit(set: bool, place: u8) -> u8
     if set { place } else { 0 }
 }
 
-// The on octet, of the modulation its low four bits; 0 for another command.
-fn on_octet(command: Command) -> u8
-    ensures { λ r. ⌜ r ≡ onOctetOf command ⌝ }
+// Stores the two octets of a stamp, where there is one.
+fn store_stamp(room: &mut [u8], at: usize, stamp: Stamp)
+    requires { ⌜ at + stampSize stamp ≤ length (now room) ⌝ }
+    ensures { λ r. ⌜ now (room .exit) ≡ written (now (room .entry)) at (stampOctets stamp) ⌝ }
 {
-    match command {
-        Command::Off => 0,
-        Command::On {
-            hdlc,
-            modulation,
-            frequency: _,
-        } => bit(hdlc, 128) + modulation % 16,
-        Command::Page => 0,
-        Command::EndOfFrame => 0,
-        Command::Abort => 0,
+    match stamp {
+        Stamp::NoStamp => {}
+        Stamp::Stamped(time) => {
+            room[at] = (time % 256) as u8;
+            room[at + 1] = (time / 256) as u8;
+        }
     }
 }
 
-// The frequency; 0 for another command than on.
-fn frequency_of(command: Command) -> u16
-    ensures { λ r. ⌜ r ≡ frequencyOf command ⌝ }
+// Stores the three octets of the command on; the others have none.
+fn store_command(room: &mut [u8], at: usize, command: Command)
+    requires { ⌜ (refusedOn command ≡ false) × (at + commandSize command ≤ length (now room)) ⌝ }
+    ensures { λ r. ⌜ now (room .exit) ≡ written (now (room .entry)) at (commandOctets command) ⌝ }
 {
     match command {
-        Command::Off => 0,
+        Command::Off => {}
         Command::On {
-            hdlc: _,
-            modulation: _,
+            hdlc,
+            modulation,
             frequency,
-        } => frequency,
-        Command::Page => 0,
-        Command::EndOfFrame => 0,
-        Command::Abort => 0,
+        } => {
+            room[at] = bit(hdlc, 128) + modulation;
+            room[at + 1] = (frequency % 256) as u8;
+            room[at + 2] = (frequency / 256) as u8;
+        }
+        Command::Page => {}
+        Command::EndOfFrame => {}
+        Command::Abort => {}
     }
 }
 
@@ -402,19 +407,14 @@ pub fn put_fax(
 {
     match fit_fax(sequence, stamp, command, body) {
         Fit::Unfit(number) => Put::NotWritten(number),
-        Fit::Octets(_) => {
-            let time = stamp_number(stamp);
-            let tone = frequency_of(command);
-            let front = front_size(stamp, command);
-            let head = [
-                first_octet(sequence, stamp, command),
-                (time % 256) as u8,
-                (time / 256) as u8,
-                on_octet(command),
-                (tone % 256) as u8,
-                (tone / 256) as u8,
-            ];
-            octets::put_both(room, at, &head[..front], body)
+        Fit::Octets(size) => {
+            if octets::exceeds(room.len(), at, size) {
+                return Put::NotWritten(refusal::ROOM_TOO_SMALL);
+            }
+            room[at] = first_octet(sequence, stamp, command);
+            store_stamp(room, at + 1, stamp);
+            store_command(room, at + 1 + stamp_size(stamp), command);
+            octets::put_octets(room, at + front_size(stamp, command), body)
         }
     }
 }
