@@ -1,0 +1,97 @@
+// The kinds of line, their keys and their octets (docs/TRIAL.md, "Input").
+pub enum Kind {
+    Digit,
+    Start,
+    Samples,
+    Digits,
+    Signalling,
+    Voice,
+    Fresh,
+    Unknown,
+}
+
+// Whether a line starts with a key.
+fn starts(text: &[u8], key: &[u8]) -> bool {
+    let mut i: usize = 0;
+    while i < key.len() {
+        if octets::octet(text, i) != key[i] {
+            return false;
+        }
+        i += 1;
+    }
+    true
+}
+
+pub fn kind_of(text: &[u8]) -> Kind {
+    if starts(text, b"digit=") {
+        return Kind::Digit;
+    }
+    if starts(text, b"start=") {
+        return Kind::Start;
+    }
+    if starts(text, b"samples=") {
+        return Kind::Samples;
+    }
+    if starts(text, b"digits=") {
+        return Kind::Digits;
+    }
+    if starts(text, b"signalling=") {
+        return Kind::Signalling;
+    }
+    if starts(text, b"voice=") {
+        return Kind::Voice;
+    }
+    if starts(text, b"fresh=") {
+        return Kind::Fresh;
+    }
+    Kind::Unknown
+}
+
+// How many characters the key has.
+pub fn key_size(kind: Kind) -> usize {
+    match kind {
+        Kind::Digit => 6,
+        Kind::Start => 6,
+        Kind::Samples => 8,
+        Kind::Digits => 7,
+        Kind::Signalling => 11,
+        Kind::Voice => 6,
+        Kind::Fresh => 6,
+        Kind::Unknown => 0,
+    }
+}
+
+// Whether a line of the kind has these octets: as many as it takes, and each in its range.
+pub fn fits(kind: Kind, octets: &[u8]) -> bool {
+    let count = octets.len();
+    let who = octets::octet(octets, 0) <= 3;
+    let second = octets::octet(octets, 1) <= 1;
+    match kind {
+        Kind::Digit => count == 5 && who && second,
+        Kind::Start => count == 1,
+        Kind::Samples => count == 12 && who && second,
+        Kind::Digits => 1 <= count && who,
+        Kind::Signalling => 1 <= count && who,
+        Kind::Voice => count == 1 && who,
+        Kind::Fresh => count == 1 && who,
+        Kind::Unknown => false,
+    }
+}
+
+// Whether *who*, the first octet of a line, names the first receiver, and whether the second.
+pub fn first_gets(octets: &[u8]) -> bool {
+    octets::octet(octets, 0) % 2 == 1
+}
+
+pub fn second_gets(octets: &[u8]) -> bool {
+    1 < octets::octet(octets, 0)
+}
+
+// The octets of a line from a place on.
+pub fn behind<'a>(octets: &'a [u8], at: usize) -> &'a [u8] {
+    if at <= octets.len() {
+        &octets[at..]
+    } else {
+        octets
+    }
+}
