@@ -1,0 +1,24 @@
+-- One answer only: the public functions of `frame`.
+use mathlib.Core.Path.{_≡_, refl, sym, _∙_}
+use denote.Ref.{now}
+use Rattle.settled.specs.Settled.{OneAnswer, nothing}
+use Rattle.frame.proofs.header.header_at.Kinds as header-header-at-kinds
+use Rattle.frame.proofs.header.header_at.Reads as header-header-at-reads
+use Rattle.frame.proofs.joining.header_size.Kinds as joining-header-size-kinds
+use Rattle.frame.proofs.joining.header_size.Reads as joining-header-size-reads
+use Rattle.frame.proofs.joining.put_header.Kinds as joining-put-header-kinds
+use Rattle.frame.proofs.joining.put_header.Reads as joining-put-header-reads
+use Rattle.frame.proofs.opening.open.Kinds as opening-open-kinds
+use Rattle.frame.proofs.opening.open.Reads as opening-open-reads
+
+pub header-header-at : OneAnswer 1 header-header-at-kinds.ps header-header-at-kinds.r nothing header-header-at-reads.Post
+header-header-at κs a x y s t p q = (p ∙ sym q, refl)
+
+pub joining-header-size : OneAnswer 0 joining-header-size-kinds.ps joining-header-size-kinds.r nothing joining-header-size-reads.Post
+joining-header-size κs a x y s t p q = (p ∙ sym q, refl)
+
+pub joining-put-header : OneAnswer 1 joining-put-header-kinds.ps joining-put-header-kinds.r (λ κs s. now (s .0)) joining-put-header-reads.Post
+joining-put-header κs a x y s t p q = (p .0 ∙ sym (q .0), cc)
+
+pub opening-open : OneAnswer 1 opening-open-kinds.ps opening-open-kinds.r nothing opening-open-reads.Post
+opening-open κs a x y s t p q = (p ∙ sym q, refl)

@@ -1,0 +1,14 @@
+pub mod Octets
+pub mod Counts
+pub mod Frame
+pub mod Levels
+pub mod Record
+pub mod Digits
+pub mod Signalling
+pub mod Data
+pub mod Fax
+pub mod Voice
+pub mod Payload
+pub mod Writer
+pub mod Card
+pub mod Cabinet

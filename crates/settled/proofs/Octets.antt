@@ -1,0 +1,29 @@
+-- One answer only: the public functions of `octets`.
+use mathlib.Core.Path.{_≡_, refl, sym, _∙_}
+use denote.Ref.{now}
+use Rattle.settled.specs.Settled.{OneAnswer, nothing}
+use Rattle.octets.proofs.octet.Kinds as octet-kinds
+use Rattle.octets.proofs.octet.Reads as octet-reads
+use Rattle.octets.proofs.octet_where.Kinds as octet-where-kinds
+use Rattle.octets.proofs.octet_where.Reads as octet-where-reads
+use Rattle.octets.proofs.exceeds.Kinds as exceeds-kinds
+use Rattle.octets.proofs.exceeds.Reads as exceeds-reads
+use Rattle.octets.proofs.put_octets.Kinds as put-octets-kinds
+use Rattle.octets.proofs.put_octets.Reads as put-octets-reads
+use Rattle.octets.proofs.put_both.Kinds as put-both-kinds
+use Rattle.octets.proofs.put_both.Reads as put-both-reads
+
+pub octet : OneAnswer 1 octet-kinds.ps octet-kinds.r nothing octet-reads.Post
+octet κs a x y s t p q = (p ∙ sym q, refl)
+
+pub octet-where : OneAnswer 0 octet-where-kinds.ps octet-where-kinds.r nothing octet-where-reads.Post
+octet-where κs a x y s t p q = (p ∙ sym q, refl)
+
+pub exceeds : OneAnswer 0 exceeds-kinds.ps exceeds-kinds.r nothing exceeds-reads.Post
+exceeds κs a x y s t p q = (p ∙ sym q, refl)
+
+pub put-octets : OneAnswer 2 put-octets-kinds.ps put-octets-kinds.r (λ κs s. now (s .0)) put-octets-reads.Post
+put-octets κs a x y s t p q = (p .0 ∙ sym (q .0), cc)
+
+pub put-both : OneAnswer 3 put-both-kinds.ps put-both-kinds.r (λ κs s. now (s .0)) put-both-reads.Post
+put-both κs a x y s t p q = (p .0 ∙ sym (q .0), cc)
