@@ -55,7 +55,7 @@ pub fn digit(dialling: Dialling, octets: &[u8]) -> Dialling {
         Sending::Unsent => crate::print::name(b"unsent="),
         Sending::Sent(sent) => {
             let mut payload = [0u8; 8];
-            // What is sent has eight octets, and none out of range.
+            // It is written: crates/digits/specs/SenderClaims.antt.
             digits::layout::put_digits(&mut payload, 0, sent);
             crate::print::octets(b"sent=", &payload);
             return hear(now, octets, &payload);

@@ -1,5 +1,5 @@
--- `trial::run` is safe and ends.
-use Prim.Native.Nat.{_-_, _≤_, _^_}
+-- `trial::run` is safe and ends: the measure is how many lines more could be numbered.
+use Prim.Native.Nat.{_-_, _^_}
 use mathlib.Core.Path.{_≡_}
 use native.Mathlib.Omega.{arith}
 use lib.ListN.{length}

@@ -1,5 +1,5 @@
--- `trial::hex::decode` is safe and ends.
-use Prim.Native.Nat.{_-_, _≤_, _^_}
+-- `trial::hex::decode` is safe, ends, and counts no more octets than the room has.
+use Prim.Native.Nat.{_-_, _≤_}
 use mathlib.Core.Path.{_≡_, sym}
 use native.Mathlib.Omega.{arith}
 use lib.ListN.{length, length-set}

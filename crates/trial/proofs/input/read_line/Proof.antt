@@ -1,5 +1,5 @@
--- `trial::input::read_line` is safe and ends.
-use Prim.Native.Nat.{_-_, _≤_, _^_}
+-- `trial::input::read_line` is safe and ends: the measure is how many characters more could be counted.
+use Prim.Native.Nat.{_-_, _^_}
 use mathlib.Core.Path.{_≡_}
 use native.Mathlib.Omega.{arith}
 use lib.ListN.{length}

@@ -1,5 +1,5 @@
 -- `trial::line::starts` is safe and ends.
-use Prim.Native.Nat.{_-_, _≤_}
+use Prim.Native.Nat.{_-_}
 use native.Mathlib.Omega.{arith}
 use lib.ListN.{length}
 use Rattle.trial.proofs.line.starts.Statement.{statement}

@@ -1,8 +1,6 @@
 -- `trial::print::part` is safe and ends.
-use Prim.Native.Nat.{_-_, _≤_, _^_}
-use mathlib.Core.Path.{_≡_}
+use Prim.Native.Nat.{_-_}
 use native.Mathlib.Omega.{arith}
-use lib.ListN.{length}
 use borrow.Author.Needs.{needs}
 use Rattle.trial.proofs.print.part.Statement.{statement}
 use Rattle.trial.proofs.print.part.Tie as tie
