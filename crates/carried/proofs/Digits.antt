@@ -9,7 +9,7 @@ use Rattle.digits.specs.Sender.{freshSender}
 use Rattle.digits.specs.Receiver.{freshReceiver}
 use Rattle.replay.specs.Periods.{Payload, pay}
 use Rattle.replay.specs.Claims.{broughtBy, joinedTo}
-use Rattle.replay.proofs.Sublists.{Each, each-some, sublist-map, rising-some}
+use Rattle.replay.proofs.Sublists.{Each, each-some, sublist-map, rising-some, sublist-among}
 use Rattle.replay.proofs.Replay.{two-receivers}
 use Rattle.carried.specs.Emissions.{Emission}
 use Rattle.carried.specs.Digits.{emissions, periodOf, Heard, came, voice, payloadsOf, arrivals, DigitsCarried}
@@ -37,7 +37,8 @@ digits-carried entries one two given =
     (two-receivers Window 8 digitReceiver brings S freshReceiver one two 255 (arrivals one) (arrivals two) by-rule refl (omega arith)
     (brought S one each)
     (brought S two each2)
+    (rising-some 0 (arrivals one) (arrivals two) within rising)
     rising
-    within
+    (sublist-among (arrivals one) (arrivals two) within)
     (given .near)
     (given .near2))

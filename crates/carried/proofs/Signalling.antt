@@ -27,15 +27,16 @@ signalling-carried start entries one two given =
     let S = periodOf start entries in
     let sent = emissions (started start .sender) 0 entries in
     let number : Emission → ℕ = λ p. p .number in
-    let each2 = each-some (Brings S) two sent (given .some) (all-bring start entries (given .begins) (given .ten)) in
-    let each = each-some (Brings S) one two (given .more) each2 in
-    let rising = rising-some 0 (arrivals two) (map number sent) (sublist-map number two sent (given .some)) (all-rise start entries) in
-    let within = sublist-map number one two (given .more) in
+    let bring = all-bring start entries (given .begins) (given .ten) in
+    let rise = all-rise start entries in
+    let each = each-some (Brings S) one sent (given .some) bring in
+    let each2 = each-some (Brings S) two sent (given .some2) bring in
     rw (← record-is freshReceiver one, ← record-is freshReceiver two)
     (two-receivers (List ℕ) 7 signallingReceiver brings S freshReceiver one two 127 (arrivals one) (arrivals two) by-rule refl (omega arith)
     (brought S one each)
     (brought S two each2)
-    rising
-    within
+    (rising-some 0 (arrivals one) (map number sent) (sublist-map number one sent (given .some)) rise)
+    (rising-some 0 (arrivals two) (map number sent) (sublist-map number two sent (given .some2)) rise)
+    (given .more)
     (given .near)
     (given .near2))

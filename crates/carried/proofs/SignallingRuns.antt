@@ -17,14 +17,14 @@ use Rattle.signalling.specs.Layout.{allAllowed}
 use Rattle.signalling.specs.Sender.{started, allEqual, isQuiet, runAfter, goingOut, nothingDue}
 use Rattle.signalling.specs.Sender as defined
 use Rattle.signalling.specs.Receiver.{freshReceiver}
-use Rattle.replay.specs.Periods.{pay, range, Near}
+use Rattle.replay.specs.Periods.{pay, range, Near, Among}
 use Rattle.replay.specs.Claims.{Replays}
 use Rattle.replay.specs.Examples.{picked}
 use Rattle.replay.proofs.Sublists.{Each, each-some, picked-some, picked-map, Two, just-two}
 use Rattle.replay.proofs.Examples.{one-more-fails}
 use Rattle.carried.specs.Emissions.{Emission}
 use Rattle.carried.specs.Signalling.{emitted, numberAfter, emissions, periodOf, arrivals, marks, TenEach}
-use Rattle.carried.specs.SignallingRuns.{still, pulse, line, sent, first, second, far, Runs, Sharp}
+use Rattle.carried.specs.SignallingRuns.{still, ring, pulse, line, sent, first, second, far, Runs, Sharp}
 use Rattle.carried.proofs.SignallingRule.{signallingReceiver, brings, by-rule, record-is}
 use Rattle.carried.proofs.SignallingSender.{Brings, all-bring, onSent, onOther, is-loud, is-early, is-resting, is-repeat, raised}
 
@@ -125,22 +125,22 @@ numbers = range 0 25 ++ 24 ∷ range 25 160
 
 all-numbers : arrivals sent ≡ numbers
 all-numbers =
-    early 25 (started 0 .sender) 0 0 (replicate 249 still ++ still ∷ replicate 160 pulse) (24 ∷ range 25 160) (record { before = refl; run = refl }) (omega arith)
+    early 25 (started 0 .sender) 0 0 (replicate 249 still ++ ring ∷ replicate 160 pulse) (24 ∷ range 25 160) (record { before = refl; run = refl }) (omega arith)
     (λ t quiet.
-    unsent 249 t 25 25 (still ∷ replicate 160 pulse) (24 ∷ range 25 160) quiet (omega arith) (omega arith)
+    unsent 249 t 25 25 (ring ∷ replicate 160 pulse) (24 ∷ range 25 160) quiet (omega arith) (omega arith)
     (λ u quiet2.
     let run : u .quiet ≡ 274 = quiet2 .run in
-    repeated u 25 still (replicate 160 pulse) (is-repeat u still fair-still (is-still u (quiet2 .before)) (omega arith))
-    ∙ ap {B = List ℕ} (λ ks. 24 ∷ ks) (pulses (onOther u still) 25 160)))
+    repeated u 25 ring (replicate 160 pulse) (is-repeat u ring fair-still (is-still u (quiet2 .before)) (omega arith))
+    ∙ ap {B = List ℕ} (λ ks. 24 ∷ ks) (pulses (onOther u ring) 25 160)))
 
 picked-numbers : (gs : List ℕ) → arrivals (picked gs sent) ≡ picked gs numbers
 picked-numbers gs = picked-map (λ (p : Emission). p .number) gs sent ∙ ap (picked gs) all-numbers
 
-second-numbers : arrivals second ≡ 0 ∷ 24 ∷ 24 ∷ 151 ∷ 153 ∷ []
-second-numbers = picked-numbers (0 ∷ 23 ∷ 0 ∷ 126 ∷ 1 ∷ [])
+second-numbers : arrivals second ≡ 0 ∷ 24 ∷ 151 ∷ 153 ∷ []
+second-numbers = picked-numbers (0 ∷ 23 ∷ 127 ∷ 1 ∷ [])
 
 first-numbers : arrivals first ≡ 24 ∷ 151 ∷ []
-first-numbers = picked-map (λ (p : Emission). p .number) (2 ∷ 0 ∷ []) second ∙ ap (picked (2 ∷ 0 ∷ [])) second-numbers
+first-numbers = picked-numbers (25 ∷ 126 ∷ [])
 
 abbrev numberOf : Emission → ℕ
 numberOf p = p .number
@@ -154,7 +154,7 @@ ten-pulses zero = tt
 ten-pulses (suc m) = (refl, ten-pulses m)
 
 ten-each : TenEach line
-ten-each = ten-of 275 still (replicate 160 pulse) refl (ten-pulses 160)
+ten-each = ten-of 274 still (ring ∷ replicate 160 pulse) refl (refl, ten-pulses 160)
 
 pub runs : Runs
 runs =
@@ -163,10 +163,11 @@ runs =
           record {
             begins = refl;
             ten = ten-each;
-            some = picked-some (0 ∷ 23 ∷ 0 ∷ 126 ∷ 1 ∷ []) sent;
-            more = picked-some (2 ∷ 0 ∷ []) second;
+            some = picked-some (25 ∷ 126 ∷ []) sent;
+            some2 = picked-some (0 ∷ 23 ∷ 127 ∷ 1 ∷ []) sent;
+            more = subst (Among (arrivals first)) (sym second-numbers) (subst (λ (ns : List ℕ). Among ns (0 ∷ 24 ∷ 151 ∷ 153 ∷ [])) (sym first-numbers) (refl, (refl, tt)));
             near = subst (Near 127) (sym first-numbers) (omega arith, tt);
-            near2 = subst (Near 127) (sym second-numbers) (omega arith, (omega arith, (omega arith, (omega arith, tt))));
+            near2 = subst (Near 127) (sym second-numbers) (omega arith, (omega arith, (omega arith, tt)));
           };
       first-is = first-numbers;
       second-is = second-numbers;

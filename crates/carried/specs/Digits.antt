@@ -1,7 +1,7 @@
 -- Demand 3 for digits: what two fresh receivers have in their records when payloads of one sender arrive, through the octets
 -- of the payloads. Proved in proofs/Digits.antt, by the replay theorem.
 --
--- It holds of the compiled code by the contracts alone: `sending` is what `digits::sender::send` answers, `digitsMade` is what
+-- It holds of the code by the contracts: `sending` is what `digits::sender::send` answers, `digitsMade` is what
 -- `digits::layout::put_digits` writes, `received` is what `digits::receiver::receive` answers, `voiceHeard` is what
 -- `digits::receiver::hear_voice` returns, and `freshSender` and `freshReceiver` are what the two `fresh` return.
 use Prim.Native.Nat.{ℕ, suc}
@@ -61,7 +61,7 @@ payloadsOf [] = []
 payloadsOf (came p ∷ hs) = p ∷ payloadsOf hs
 payloadsOf (voice ∷ hs) = payloadsOf hs
 
--- the arrivals, by the numbers of their periods
+-- the arrivals, by the numbers of their payloads
 abbrev pub arrivals : List Heard → List ℕ
 arrivals hs = map (λ (p : Emission). p .number) (payloadsOf hs)
 

@@ -1,7 +1,7 @@
 -- Demand 3 for signalling (seizure bits): what two fresh receivers have in their records when payloads of one sender arrive,
 -- through the octets of the payloads. Proved in proofs/Signalling.antt, by the replay theorem.
 --
--- It holds of the compiled code by the contracts alone: `started` is what `signalling::sender::start` answers, `sent` is what
+-- It holds of the code by the contracts: `started` is what `signalling::sender::start` answers, `sent` is what
 -- `signalling::sender::send` answers, `signallingMade` is what `signalling::layout::put_signalling` writes, `received` is what
 -- `signalling::receiver::receive` answers, and `freshReceiver` is what `signalling::receiver::fresh` returns.
 use Prim.Native.Nat.{ℕ, suc, _-_}
@@ -19,7 +19,7 @@ use Rattle.signalling.specs.declared.receiver.Received.{Received}
 use Rattle.signalling.specs.Layout.{signallingMade}
 use Rattle.signalling.specs.Sender.{started, sent}
 use Rattle.signalling.specs.Receiver.{freshReceiver, farthest, received}
-use Rattle.replay.specs.Periods.{Mark, filled, carried, Near, Sublist}
+use Rattle.replay.specs.Periods.{Mark, filled, carried, Near, Among, Sublist}
 use Rattle.replay.specs.Claims.{BothReplay}
 use Rattle.carried.specs.Emissions.{Emission, octetsOf}
 
@@ -62,7 +62,7 @@ startPeriod start = replicate 10 start
 abbrev pub periodOf : ℕ → List Entry → ℕ → List ℕ
 periodOf start entries j = getD (startPeriod start ∷ startPeriod start ∷ sentBy (started start .sender) entries) j (startPeriod start)
 
--- the arrivals, by the numbers of their periods
+-- the arrivals, by the numbers of their payloads
 abbrev pub arrivals : List Emission → List ℕ
 arrivals ps = map (λ (p : Emission). p .number) ps
 
@@ -89,9 +89,10 @@ pub record Given (start : ℕ) (entries : List Entry) (first second : List Emiss
   pub begins : started start .number ≡ sound
   pub ten : TenEach entries
   -- "Each gets some of its payloads, undamaged and in order"
-  pub some : Sublist second (emissions (started start .sender) 0 entries)
-  -- "the second at least all that the first gets"
-  pub more : Sublist first second
+  pub some : Sublist first (emissions (started start .sender) 0 entries)
+  pub some2 : Sublist second (emissions (started start .sender) 0 entries)
+  -- "the second at least all that the first gets", where "a static repeat counts as the payload it repeats"
+  pub more : Among (arrivals first) (arrivals second)
   -- "No two successive arrivals at either are more than 127 periods apart": the farthest step that is replayed
   pub near : Near farthest (arrivals first)
   pub near2 : Near farthest (arrivals second)

@@ -20,26 +20,30 @@ still = record { alarm = false; samples = replicate 10 0 }
 abbrev pub pulse : Entry
 pulse = record { alarm = true; samples = 1 ∷ replicate 9 0 }
 
+-- quiet too, with the alarm
+abbrev pub ring : Entry
+ring = record { alarm = true; samples = replicate 10 0 }
+
 -- From the start value 0: of 275 quiet periods the first 25 are sent, with the numbers 0 to 24, and at the last one the
--- payload number 24 is repeated; then 160 periods are sent, with the numbers 25 to 184.
+-- payload number 24 is repeated, with another alarm bit; then 160 periods are sent, with the numbers 25 to 184.
 abbrev pub line : List Entry
-line = replicate 275 still ++ replicate 160 pulse
+line = replicate 274 still ++ ring ∷ replicate 160 pulse
 
 abbrev pub sent : List Emission
 sent = emissions (started 0 .sender) 0 line
 
--- Both receivers have a gap of 127 periods and go round at 128. The second gets the payload number 24 and its repeat, the first
--- begins with the repeat.
-abbrev pub second : List Emission
-second = picked (0 ∷ 23 ∷ 0 ∷ 126 ∷ 1 ∷ []) sent
-
+-- Both receivers have a gap of 127 periods and go round at 128. The first begins with the repeat of the payload number 24, the
+-- second gets that payload itself.
 abbrev pub first : List Emission
-first = picked (2 ∷ 0 ∷ []) second
+first = picked (25 ∷ 126 ∷ []) sent
+
+abbrev pub second : List Emission
+second = picked (0 ∷ 23 ∷ 127 ∷ 1 ∷ []) sent
 
 pub record Runs : Type 0 where
   pub given : Given 0 line first second
   pub first-is : arrivals first ≡ 24 ∷ 151 ∷ []
-  pub second-is : arrivals second ≡ 0 ∷ 24 ∷ 24 ∷ 151 ∷ 153 ∷ []
+  pub second-is : arrivals second ≡ 0 ∷ 24 ∷ 151 ∷ 153 ∷ []
 
 -- Two arrivals 128 apart: all is given but for the gap, and the record is not what is demanded.
 abbrev pub far : List Emission

@@ -1,13 +1,14 @@
 -- Ranges of numbers, and which of them are covered by arrivals.
 use Prim.Native.Nat.{ℕ, zero, suc, _+_, _<_, _≤_}
-use mathlib.Core.Path.{_≡_, refl, ap, _∙_}
+use mathlib.Core.Path.{_≡_, refl, sym, ap, _∙_}
 use mathlib.Core.List.{List, [], _∷_, _++_, map}
 use mathlib.Core.Bool.{Bool, true, false, cond}
 use native.Mathlib.Omega.{arith}
-use borrow.Author.Tests.{lt-ltb, le-ltb}
-use lib.Dec.{ltb}
+use borrow.Author.Tests.{lt-ltb, le-ltb, eqb-true}
+use lib.Dec.{ltb, eqb}
 use lib.ListN.{length, getD, replicate}
-use Rattle.replay.specs.Periods.{covered, range, lastFrom, Rising, NearFrom, Near, Sublist, none-left, left-out, taken}
+use Rattle.octets.proofs.Order.{clash, either}
+use Rattle.replay.specs.Periods.{covered, range, lastFrom, Rising, NearFrom, Near, isIn, Among}
 
 pub map-append : {A B : Type 0} (f : A → B) (xs ys : List A) → map f (xs ++ ys) ≡ map f xs ++ map f ys
 map-append f [] ys = refl
@@ -109,13 +110,37 @@ covers-too true u c e = e
 covers-too false true c e = e
 covers-too false false c e = refl
 
-covers-still : (t u c d : Bool) → (c ≡ true → d ≡ true) → cond t c (cond u c true) ≡ true → cond t d (cond u d true) ≡ true
-covers-still true u c d f e = f e
-covers-still false true c d f e = f e
-covers-still false false c d f e = refl
+-- one that covers is among the others
+in-covers : (a j : ℕ) (others : List ℕ) → isIn a others ≡ true → ltb j a ≡ false → ltb (a + 2) j ≡ false → covered others j ≡ true
+in-covers a j [] e low high = clash true refl (sym e)
+in-covers a j (b ∷ bs) e low high =
+    either
+    (λ (same : eqb a b ≡ true).
+    let is : a ≡ b = eqb-true a b same in
+    let low-b : ltb j b ≡ false = rw is at low in
+    let high-b : ltb (b + 2) j ≡ false = rw is at high in
+    rw (low-b, high-b) refl)
+    (λ (other : eqb a b ≡ false).
+    covers-too (ltb j b) (ltb (b + 2) j) (covered bs j)
+    (in-covers a j bs (sym (ap (λ (t : Bool). cond t true (isIn a bs)) other) ∙ e) low high))
+    (eqb a b)
+    refl
 
-pub covers-more : (arrivals others : List ℕ) (j : ℕ) → Sublist arrivals others → covered arrivals j ≡ true → covered others j ≡ true
-covers-more arrivals others j none-left e = e
-covers-more arrivals others j (left-out {x} {xs} {ys} s) e = covers-too (ltb j x) (ltb (x + 2) j) (covered ys j) (covers-more xs ys j s e)
-covers-more arrivals others j (taken {x} {xs} {ys} s) e =
-    covers-still (ltb j x) (ltb (x + 2) j) (covered xs j) (covered ys j) (λ (h : covered xs j ≡ true). covers-more xs ys j s h) e
+pub covers-more : (arrivals others : List ℕ) (j : ℕ) → Among arrivals others → covered arrivals j ≡ true → covered others j ≡ true
+covers-more [] others j among e = clash true refl (sym e)
+covers-more (a ∷ more) others j among e =
+    either
+    (λ (before : ltb j a ≡ true).
+    covers-more more others j (among .1) (sym (ap (λ (t : Bool). cond t (covered more j) (cond (ltb (a + 2) j) (covered more j) true)) before) ∙ e))
+    (λ (low : ltb j a ≡ false).
+    either
+    (λ (behind : ltb (a + 2) j ≡ true).
+    covers-more more others j (among .1)
+    (sym (ap (λ (t : Bool). cond t (covered more j) true) behind)
+    ∙ sym (ap (λ (t : Bool). cond t (covered more j) (cond (ltb (a + 2) j) (covered more j) true)) low)
+    ∙ e))
+    (λ (high : ltb (a + 2) j ≡ false). in-covers a j others (among .0) low high)
+    (ltb (a + 2) j)
+    refl)
+    (ltb j a)
+    refl

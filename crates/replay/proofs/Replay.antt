@@ -16,7 +16,6 @@ use Rattle.counts.proofs.Laws.{laws}
 use Rattle.replay.specs.Rule.{stepTaken, fillCount}
 use Rattle.replay.specs.Periods.{Payload, pay, Mark, filled, carried, told, heldAt, covered, cell, range, firstOf, lastFrom, spanOf}
 use Rattle.replay.specs.Claims.{Receiver, recordOf, byStep, Takes, Passes, Acts, ByRule, joinedTo, broughtBy, Replays, Replay, SecondKeeps, TwoReceivers}
-use Rattle.replay.proofs.Sublists.{rising-some}
 use Rattle.replay.proofs.Ranges.{map-append, map-replicate, length-range, range-append, map-range, map-constant, inside, outside, here, before, beyond, last-low, none-before, none-beyond, covers-more, Chain, Close, close}
 
 cell-true : {A : Type 0} (S : ℕ → A) (arrivals : List ℕ) (j : ℕ) → covered arrivals j ≡ true → cell S arrivals j ≡ some (S j)
@@ -285,16 +284,16 @@ cell-some true a b e = (refl, cc)
 cell-some false a b e = let z : _≡_ {A = ℕ} 0 1 = cc in absurd (omega arith)
 
 pub second-keeps : SecondKeeps
-second-keeps A S arrivals others marks marks2 sub one two j a e =
+second-keeps A S arrivals others marks marks2 among one two j a e =
     let given = cell-some (covered arrivals j) (S j) a (sym (one .place j) ∙ e) in
-    two .place j ∙ cell-true S others j (covers-more arrivals others j sub (given .0)) ∙ ap some (given .1)
+    two .place j ∙ cell-true S others j (covers-more arrivals others j among (given .0)) ∙ ap some (given .1)
 
 pub two-receivers : TwoReceivers
-two-receivers A k r brings S s es es2 gap arrivals others rule fresh less brought brought2 rising within near near2 =
-    let one = replay A k r brings S s es gap arrivals rule fresh brought less (rising-some 0 arrivals others within rising) near in
-    let two = replay A k r brings S s es2 gap others rule fresh brought2 less rising near2 in
+two-receivers A k r brings S s es es2 gap arrivals others rule fresh less brought brought2 rising rising2 among near near2 =
+    let one = replay A k r brings S s es gap arrivals rule fresh brought less rising near in
+    let two = replay A k r brings S s es2 gap others rule fresh brought2 less rising2 near2 in
     record {
       first = one;
       second = two;
-      keeps = second-keeps A S arrivals others (recordOf r s es) (recordOf r s es2) within one two;
+      keeps = second-keeps A S arrivals others (recordOf r s es) (recordOf r s es2) among one two;
     }

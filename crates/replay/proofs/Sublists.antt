@@ -1,11 +1,15 @@
 -- Some of a list, in its order: what holds of each, and their order, stays.
 use Prim.Native.Nat.{ℕ, zero, suc, _≤_}
 use mathlib.Core.Path.{_≡_, refl, ap}
+use mathlib.Core.Bool.{true, false}
 use mathlib.Core.List.{List, [], _∷_, map}
 use native.Mathlib.Omega.{arith}
+use borrow.Author.Tests.{eq-eqb}
+use lib.Dec.{eqb}
 use lib.ListN.{length}
+use Rattle.octets.proofs.Order.{either}
 use Rattle.replay.specs.Examples.{picked}
-use Rattle.replay.specs.Periods.{Rising, Sublist, none-left, left-out, taken}
+use Rattle.replay.specs.Periods.{Rising, isIn, Among, Sublist, none-left, left-out, taken}
 
 abbrev pub Each : {A : Type 0} → (A → Type 0) → List A → Type 0
 Each P [] = Unit
@@ -61,3 +65,16 @@ just-two number (x ∷ y ∷ []) a b e = record { one = x; two = y; are = refl; 
 just-two number (x ∷ y ∷ z ∷ xs) a b e =
     let many : suc (suc (suc (length (map number xs)))) ≡ 2 = ap length e in
     absurd (omega arith)
+
+-- some of a list of numbers are among them
+in-still : (a b : ℕ) (bs : List ℕ) → isIn a bs ≡ true → isIn a (b ∷ bs) ≡ true
+in-still a b bs e = either (λ (t : eqb a b ≡ true). rw t refl) (λ (t : eqb a b ≡ false). rw t e) (eqb a b) refl
+
+among-still : (xs ys : List ℕ) (y : ℕ) → Among xs ys → Among xs (y ∷ ys)
+among-still [] ys y among = tt
+among-still (x ∷ xs) ys y among = (in-still x y ys (among .0), among-still xs ys y (among .1))
+
+pub sublist-among : (xs ys : List ℕ) → Sublist xs ys → Among xs ys
+sublist-among xs ys none-left = tt
+sublist-among xs ys (left-out {x} {xs = more} {ys = bs} s) = among-still more bs x (sublist-among more bs s)
+sublist-among xs ys (taken {x} {xs = more} {ys = bs} s) = (rw (eq-eqb x x refl) refl, among-still more bs x (sublist-among more bs s))

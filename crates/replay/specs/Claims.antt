@@ -9,7 +9,7 @@ use mathlib.Core.Option.{Option, none, some}
 use lib.ListN.{length, replicate}
 use Rattle.counts.specs.Round.{step}
 use Rattle.replay.specs.Rule.{stepTaken, fillCount, newest}
-use Rattle.replay.specs.Periods.{Payload, pay, Mark, filled, carried, told, heldAt, cell, range, firstOf, spanOf, Rising, Near, Sublist}
+use Rattle.replay.specs.Periods.{Payload, pay, Mark, filled, carried, told, heldAt, cell, range, firstOf, spanOf, Rising, Near, Among}
 
 -- A receiver: whether it has heard a payload, the last sequence, and what an event (a payload, or anything else) appends to
 -- its record and leaves as its state. A state may hold more than these two.
@@ -91,7 +91,7 @@ Keeps {A} arrivals marks arrivals2 marks2 = (j : ℕ) (a : A) → heldAt (firstO
 abbrev pub SecondKeeps : Type 1
 SecondKeeps =
     (A : Type 0) (S : ℕ → A) (arrivals arrivals2 : List ℕ) (marks marks2 : List (Mark A))
-    → Sublist arrivals arrivals2
+    → Among arrivals arrivals2
     → Replays S arrivals marks
     → Replays S arrivals2 marks2
     → Keeps arrivals marks arrivals2 marks2
@@ -102,7 +102,8 @@ pub record BothReplay {A : Type 0} (S : ℕ → A) (arrivals : List ℕ) (marks 
   pub second : Replays S arrivals2 marks2
   pub keeps : Keeps arrivals marks arrivals2 marks2
 
--- Two fresh receivers, the second of which gets at least all that the first gets.
+-- Two fresh receivers, the second of which gets at least all that the first gets: a payload and its static repeat have one number,
+-- and count as one.
 abbrev pub TwoReceivers : Type 1
 TwoReceivers =
     (A : Type 0) (k : ℕ) (r : Receiver A) (brings : r .Event → Option (Payload A)) (S : ℕ → A) (s : r .State) (es es2 : List (r .Event)) (gap : ℕ) (arrivals arrivals2 : List ℕ)
@@ -111,8 +112,9 @@ TwoReceivers =
     → Told k gap
     → broughtBy brings es ≡ map (pay k S) arrivals
     → broughtBy brings es2 ≡ map (pay k S) arrivals2
+    → Rising 0 arrivals
     → Rising 0 arrivals2
-    → Sublist arrivals arrivals2
+    → Among arrivals arrivals2
     → Near gap arrivals
     → Near gap arrivals2
     → BothReplay S arrivals (recordOf r s es) arrivals2 (recordOf r s es2)

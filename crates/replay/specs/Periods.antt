@@ -2,10 +2,11 @@
 -- them", so S 0 and S 1 are the start state, and the payload number i, from 0, has the windows S i, S (i + 1), S (i + 2), oldest
 -- first. Its own period is S (i + 2); "two periods before" it is S i.
 use Prim.Native.Nat.{ℕ, zero, suc, _+_, _-_, _%_, _^_, _≤_}
+use mathlib.Core.Path.{_≡_}
 use mathlib.Core.List.{List, [], _∷_, map}
 use mathlib.Core.Bool.{Bool, true, false, cond}
 use mathlib.Core.Option.{Option, none, some}
-use lib.Dec.{ltb}
+use lib.Dec.{ltb, eqb}
 use lib.ListN.{getD}
 
 -- What a payload brings: its sequence, and its three windows, oldest first.
@@ -59,7 +60,8 @@ abbrev pub spanOf : List ℕ → ℕ
 spanOf [] = 0
 spanOf (a ∷ more) = lastFrom a more - a + 3
 
--- "No two successive arrivals .. are more than" `gap` "periods apart", where a came before these; they are in order.
+-- "No two successive arrivals .. are more than" `gap` "periods apart", where a came before these. That they are in order is
+-- `Rising`.
 abbrev pub NearFrom : ℕ → ℕ → List ℕ → Type 0
 NearFrom gap a [] = Unit
 NearFrom gap a (b ∷ bs) = (b ≤ a + gap) × NearFrom gap b bs
@@ -72,6 +74,15 @@ Near gap (a ∷ more) = NearFrom gap a more
 abbrev pub Rising : ℕ → List ℕ → Type 0
 Rising a [] = Unit
 Rising a (b ∷ bs) = (a ≤ b) × Rising b bs
+
+-- Each number of the first list is one of the second.
+abbrev pub isIn : ℕ → List ℕ → Bool
+isIn a [] = false
+isIn a (b ∷ bs) = cond (eqb a b) true (isIn a bs)
+
+abbrev pub Among : List ℕ → List ℕ → Type 0
+Among [] others = Unit
+Among (a ∷ more) others = (isIn a others ≡ true) × Among more others
 
 -- Some of a list, in its order.
 pub data Sublist {A : Type 0} : List A → List A → Type 0 where
