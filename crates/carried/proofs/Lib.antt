@@ -8,3 +8,4 @@ pub mod SignallingRule
 pub mod SignallingSender
 pub mod Signalling
 pub mod SignallingRuns
+pub mod Bounds

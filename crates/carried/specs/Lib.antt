@@ -3,3 +3,4 @@ pub mod Digits
 pub mod DigitRuns
 pub mod Signalling
 pub mod SignallingRuns
+pub mod Bounds
