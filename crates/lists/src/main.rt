@@ -1,0 +1,40 @@
+// Legal lists of sub-frames, drawn from a seed (document 01, "Frame and sub-frame"): each is written, opened, read back and
+// compared with what was given. The output is an input of the listing program: the provisioning text, then a `frame=` line a
+// list. Behind a frame that does not read back a line says `differs=` with the first sub-frame that differs, from 1; none does.
+// The file stdout is this program's own output: the second program lists each of its sub-frames with answer 0, and with the
+// CID, type and length that were drawn.
+mod body;
+mod compare;
+mod contents;
+mod draws;
+mod list;
+mod print;
+mod provisioning;
+mod reads;
+mod writes;
+
+const LISTS: u64 = 200;
+
+// With this one every coding type, m, fax command and modulation is drawn, and bench examples 13 and 14.
+const FIRST_SEED: u64 = 12;
+
+fn main() {
+    let mut table = [0u16; 256];
+    provisioning::provision(&mut table);
+    let mut seed = FIRST_SEED;
+    let mut number: u64 = 0;
+    while number < LISTS {
+        one(&table, list::list_of(number, seed));
+        seed = draws::far_seed(seed);
+        number += 1;
+    }
+}
+
+// Writes one list into a lent frame, prints the frame, and reads it back.
+fn one(table: &[u16; 256], list: list::List) {
+    let mut room = [0u8; 1600];
+    let written = writes::write_list(&mut room, table, list);
+    let frame = body::part(&room, 0, written);
+    print::frame(frame);
+    print::differs(reads::first_differing(frame, table, list));
+}
