@@ -20,7 +20,7 @@ on code edge = record { on = true; edge = edge; code = code }
 abbrev off : ℕ → Window
 off edge = record { on = false; edge = edge; code = 0 }
 
--- the entry of a period at a level; an off entry has a code that is not looked at
+-- the entry of a period at a level
 abbrev entry : Window → ℤ → Entry
 entry w level = record { on = w .on; code = w .code; edge = w .edge; level = level }
 
@@ -60,8 +60,8 @@ ACode =
     answers freshSender (entry (on 5 1) (negsuc 9) ∷ entry (on 6 2) (pos 3) ∷ [])
     ≡ sends 0 (negsuc 9) (on 5 1) (off 0) (off 0) ∷ sends 1 (pos 3) (on 6 2) (on 5 1) (off 0) ∷ []
 
--- Edge 20 and a level of -32 are 15, also where the edge stands without a change; that is 17; off with another code is no
--- change; and a refused entry is no period.
+-- Edge 20, a level of -32 and code 16 are 15, also where an edge stands without a change, which alone is 17. Off with another
+-- code is no change. A refused entry is no period.
 abbrev pub Refusals : Type 0
 Refusals =
     answers freshSender

@@ -1,4 +1,4 @@
--- What is sent can be written and reads back (demand 3: "through octets"). Proved in proofs/SenderBack.antt.
+-- What is sent can be written and reads back. Proved in proofs/SenderBack.antt.
 use Prim.Native.Nat.{ℕ}
 use mathlib.Core.Path.{_≡_}
 use mathlib.Core.List.{List, [], _∷_}

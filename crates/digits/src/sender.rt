@@ -13,8 +13,8 @@ pub struct Entry {
     pub level: i8,
 }
 
-// What the next period depends on: its number, the entry before (code 0 when off), how many more periods are sent after
-// it though they are off and unchanged, and the last two sent periods.
+// What the next period depends on: the number of the next sent period; the entry before (code 0 when off); how many periods
+// from here on are sent though off and unchanged; the last two sent periods.
 pub struct Sender {
     next: DigitCount,
     on: bool,

@@ -60,8 +60,8 @@ abbrev pub broughtBy : {E P : Type 0} → (E → Option P) → List E → List P
 broughtBy brings [] = []
 broughtBy brings (e ∷ es) = joinedTo (brings e) (broughtBy brings es)
 
--- A record as the sender's periods S and the arrivals demand it: as long as from two periods before the first arrival to the
--- last; and each period of the sender is marked carried exactly when its own payload or one of the next two arrived, and then
+-- A record as the sender's periods S and the arrivals demand it: as long as the stretch from two periods before the first
+-- arrival to the last; and each period of the sender is marked carried exactly when its own payload or one of the next two arrived, and then
 -- holds what the sender put there. A period outside the record is marked nothing, and none of those payloads arrived.
 pub record Replays {A : Type 0} (S : ℕ → A) (arrivals : List ℕ) (marks : List (Mark A)) : Type 0 where
   pub long : length marks ≡ spanOf arrivals

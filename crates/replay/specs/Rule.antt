@@ -17,6 +17,6 @@ fillCount step = step - 3
 abbrev pub carriedCount : ℕ → ℕ
 carriedCount step = cond (ltb step 3) step 3
 
--- These of the three windows of a payload, which stand oldest first.
+-- So many of the three windows of a payload, the newest; they stand oldest first.
 abbrev pub newest : {A : Type 0} → ℕ → List A → List A
 newest step windows = drop (3 - step) windows

@@ -33,7 +33,7 @@ SignallingMadeAgain =
     → signallingRead octets ≡ record { number = sound; signalling = s }
     → (length (s .samples) ≡ 30) × (signallingMade s ≡ made octets)
 
--- Of a run of quiet periods that just begins the i-th, from 1, is sent exactly when i is at most 25; the last payload is
+-- Of a run of quiet periods that just begins, the i-th (from 1) is sent exactly when i is at most 25; the last payload is
 -- repeated exactly when i - 25 is a multiple of 250 above 0. Proved in proofs/QuietRun.antt.
 abbrev pub inQuietRun : ℕ → Decision
 inQuietRun i = cond (leb i 25) Sends (cond (eqb ((i - 25) % 250) 0) Repeats Rests)

@@ -17,7 +17,7 @@ use Rattle.signalling.specs.declared.sender.Decision.{Decision}
 use Rattle.signalling.specs.declared.sender.Decision.the-variants.{Sends, Repeats, Rests}
 use Rattle.signalling.specs.Layout.{allowed, nothing, allAllowed}
 
--- "the start state standing before the first", whose number is to be 0: the number before it is 127.
+-- "the start state standing before the first". The first number is to be 0, so the one before it is 127.
 abbrev pub senderFrom : ℕ → Sender
 senderFrom value = record { last = record { 0 = 127 }; before = value; quiet = 0; windows = replicate 30 value }
 
@@ -43,7 +43,7 @@ decision quiet run = cond quiet (cond (ltb run 25) Sends (cond (ltb run 274) Res
 abbrev pub runAfter : Bool → ℕ → ℕ
 runAfter quiet run = cond quiet (cond (ltb run 274) (run + 1) 25) 0
 
--- "Its windows are the last three sent periods."
+-- "Its windows are the last three sent periods".
 abbrev pub windowsAfter : List ℕ → List ℕ → List ℕ
 windowsAfter windows samples = drop 10 windows ++ samples
 

@@ -19,7 +19,8 @@ pub struct Sender {
     windows: [u8; 30],
 }
 
-// What starting one tells: 15 for a start value that is not allowed, and the sender.
+// What starting one tells: 15 for a start value that is not allowed, else 0; and the sender, which beside a refusal starts
+// from 0.
 pub struct Started {
     pub number: u8,
     pub sender: Sender,
