@@ -11,4 +11,5 @@ pub mod Voice
 pub mod Payload
 pub mod Writer
 pub mod Card
+pub mod Lines
 pub mod Cabinet

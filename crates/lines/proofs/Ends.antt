@@ -1,0 +1,73 @@
+-- Looking for the end of a line and of the text, from place i on.
+use Prim.Native.Nat.{ℕ, suc, _+_, _<_, _≤_}
+use mathlib.Core.Path.{_≡_}
+use mathlib.Core.List.{List, [], _∷_}
+use mathlib.Core.Bool.{Bool, true, false, cond, _&&_}
+use native.Mathlib.Omega.{arith}
+use native.Mathlib.Numerals.{add-one}
+use borrow.Author.Tests.{eq-eqb, ne-eqb}
+use lib.Dec.{eqb}
+use lib.ListN.{length, getD, drop, drop-of-length-le}
+use lib.Seq.{drop-cons}
+use Rattle.record.specs.Value.{starts}
+use Rattle.lines.specs.Field.{frameKey}
+use Rattle.lines.specs.Pieces.{textFrom, lineSize}
+
+module _ (s : List ℕ) (i : ℕ) where
+  pub no-more : length s ≤ i → lineSize (drop i s) ≡ 0
+  unfolding lineSize
+  no-more h = rw (drop-of-length-le s h)
+
+  module _ (there : i < length s) where
+    pub found : getD s i 0 ≡ 10 → lineSize (drop i s) ≡ 1
+    unfolding lineSize
+    found h = rw (drop-cons s i 0 there) (simp (eq-eqb (getD s i 0) 10 h))
+
+    pub passed : (getD s i 0 ≡ 10 → ⊥) → lineSize (drop i s) ≡ suc (lineSize (drop (i + 1) s))
+    unfolding lineSize
+    passed h = rw (drop-cons s i 0 there, add-one i) (simp (ne-eqb (getD s i 0) 10 h))
+
+pub size-within : (s : List ℕ) → lineSize s ≤ length s
+unfolding lineSize
+size-within [] = omega arith
+size-within (x ∷ xs) = go (eqb x 10) (size-within xs)
+  where
+    go : (t : Bool) → lineSize xs ≤ length xs → cond t 1 (suc (lineSize xs)) ≤ suc (length xs)
+    go true h = omega arith
+    go false h = omega arith
+
+pub size-some : (s : List ℕ) → 0 < length s → 0 < lineSize s
+unfolding lineSize
+size-some [] h = h
+size-some (x ∷ xs) h = go (eqb x 10)
+  where
+    go : (t : Bool) → 0 < cond t 1 (suc (lineSize xs))
+    go true = omega arith
+    go false = omega arith
+
+module _ (s : List ℕ) (at : ℕ) where
+  pub text-over : (begins : Bool) → length s ≤ at → textFrom begins (drop at s) ≡ 0
+  unfolding textFrom
+  text-over begins h = rw (drop-of-length-le s h)
+
+  module _ (there : at < length s) where
+    pub frame-here : starts (drop at s) frameKey ≡ true → textFrom true (drop at s) ≡ 0
+    unfolding textFrom
+    frame-here h = rw (drop-cons s at 0 there) (simp (rw (drop-cons s at 0 there) at h))
+
+    pub text-on :
+        (begins : Bool)
+        → (begins && starts (drop at s) frameKey) ≡ false
+        → textFrom begins (drop at s) ≡ suc (textFrom (eqb (getD s at 0) 10) (drop (at + 1) s))
+    unfolding textFrom
+    text-on begins h = rw (drop-cons s at 0 there, add-one at) (simp (rw (drop-cons s at 0 there) at h))
+
+-- the text ends within the octets looked at
+pub text-within : (begins : Bool) (s : List ℕ) → textFrom begins s ≤ length s
+unfolding textFrom
+text-within begins [] = omega arith
+text-within begins (x ∷ xs) = go (begins && starts (x ∷ xs) frameKey) (text-within (eqb x 10) xs)
+  where
+    go : (t : Bool) → textFrom (eqb x 10) xs ≤ length xs → cond t 0 (suc (textFrom (eqb x 10) xs)) ≤ suc (length xs)
+    go true h = omega arith
+    go false h = omega arith

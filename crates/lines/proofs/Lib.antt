@@ -1,0 +1,14 @@
+pub mod Spelling
+pub mod Appending
+pub mod Decoding
+pub mod LineCases
+pub mod Ends
+pub mod Keeping
+pub mod Inside
+pub mod Listings
+pub mod SubsTurns
+pub mod StreamTurns
+pub mod Digits
+pub mod LineStart
+pub mod TextStart
+pub mod Examples

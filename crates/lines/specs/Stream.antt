@@ -1,0 +1,71 @@
+-- A recording listed piece by piece: lines are kept until they are whole, each is listed under its number, and every line takes
+-- a number, refused or not (document 01, "Listing program").
+use Prim.Native.Nat.{ℕ, zero, suc, _+_, _-_}
+use mathlib.Core.List.{List, [], _∷_, _++_}
+use mathlib.Core.Bool.{cond}
+use lib.Dec.{ltb, eqb}
+use lib.ListN.{length, take, drop}
+use Rattle.octets.specs.Room.{written}
+use Rattle.record.specs.Value.{hasLf}
+use Rattle.lines.specs.declared.stream.Begun.{Begun}
+use Rattle.lines.specs.declared.stream.Listed.{Listed}
+use Rattle.lines.specs.Listing.{lineListing, mostListed}
+use Rattle.lines.specs.Pieces.{lineSize, toKeep}
+
+-- the number after this one, up to the last of 64 bits
+unfoldable pub nextNumber : ℕ → ℕ
+nextNumber n = cond (ltb n 18446744073709551615) (n + 1) n
+
+-- What listing a piece does: the text, the octets taken, the lent room for a line with the octets that are kept there, and the
+-- number of the line that is next.
+pub record Walk : Type 0 where
+  pub text : List ℕ
+  pub taken : ℕ
+  pub kept : List ℕ
+  pub have : ℕ
+  pub number : ℕ
+
+abbrev pub stopped : ℕ → ℕ → List ℕ → Walk
+stopped n have kept = record { text = []; taken = 0; kept = kept; have = have; number = n }
+
+-- a text and the octets that it took, before what follows
+abbrev pub before : List ℕ → ℕ → Walk → Walk
+before text size w =
+    record { text = text ++ w .text; taken = size + w .taken; kept = w .kept; have = w .have; number = w .number }
+
+-- the room for a line, after it kept what a piece has of the line
+abbrev pub keptOf : ℕ → List ℕ → List ℕ → List ℕ
+keptOf have kept piece = written kept have (toKeep (length kept) have piece)
+
+abbrev pub haveOf : ℕ → List ℕ → List ℕ → ℕ
+haveOf have kept piece = have + length (toKeep (length kept) have piece)
+
+-- the listing of a line that is whole with what a piece has of it
+abbrev pub wholeListing : List ℕ → ℕ → ℕ → List ℕ → List ℕ → List ℕ
+wholeListing table n have kept piece = lineListing n table (take (haveOf have kept piece) (keptOf have kept piece))
+
+-- The lines of a piece, with `used` of `room` octets listed already: one after the other, as long as the room is there for a
+-- listing. Each has an octet, so that a first number not below the octets is enough.
+unfoldable pub walk : ℕ → ℕ → List ℕ → ℕ → ℕ → ℕ → List ℕ → List ℕ → Walk
+walk zero room table used n have kept piece = stopped n have kept
+walk (suc more) room table used n have kept [] = stopped n have kept
+walk (suc more) room table used n have kept (x ∷ xs) =
+    let piece = x ∷ xs in
+    let rest = drop (lineSize piece) piece in
+    let text = wholeListing table n have kept piece in
+    cond (ltb (room - used) mostListed) (stopped n have kept)
+    (cond (hasLf piece)
+    (before text (lineSize piece) (walk more room table (used + length text) (nextNumber n) 0 (keptOf have kept piece) rest))
+    (before [] (lineSize piece) (walk more room table used n (haveOf have kept piece) (keptOf have kept piece) rest)))
+
+abbrev pub pieceListed : ℕ → List ℕ → Begun → List ℕ → List ℕ → Walk
+pieceListed room table begun kept piece = walk (length piece) room table 0 (begun .number) (begun .have) kept piece
+
+-- the answer of the code
+abbrev pub answer : Walk → Listed
+answer w = record { taken = w .taken; used = length (w .text); have = w .have; number = w .number }
+
+-- what is listed at the end of the input: a last line that lacks its LF, where the room is there
+unfoldable pub lastListed : ℕ → List ℕ → Begun → List ℕ → List ℕ
+lastListed room table begun kept =
+    cond (eqb (begun .have) 0) [] (cond (ltb room mostListed) [] (lineListing (begun .number) table (take (begun .have) kept)))

@@ -1,0 +1,58 @@
+// A line after the provisioning text (document 01, "Listing program").
+ghost use mathlib.Core.Path.{_≡_};
+ghost use lib.ListN.{length, take};
+ghost use Rattle.record.specs.Value.{starts};
+ghost use Rattle.lines.specs.Field.{frameKey};
+ghost use Rattle.lines.specs.Hex.{answer, octetsOf, sizeOf};
+ghost use Rattle.lines.specs.Line.{lineRead};
+
+const LF: u8 = 10;
+
+const MOST_CHARACTERS: usize = 3200;
+
+// What a line holds: so many octets of a frame, or a refusal number.
+pub enum LineRead {
+    Octets(usize),
+    BadLine(u8),
+}
+
+// Whether a text starts with `frame=`.
+pub fn starts_frame(s: &[u8]) -> bool
+    ensures { λ r. ⌜ r ≡ starts (now (s .entry)) frameKey ⌝ }
+{
+    let key = b"frame=";
+    let mut i = 0;
+    while i < 6 {
+        if s.len() <= i {
+            return false;
+        }
+        if s[i] != key[i] {
+            return false;
+        }
+        i += 1;
+    }
+    true
+}
+
+// Reads a line, with its LF where that is there: the octets of its frame stand at the start of `frame`.
+pub(crate) fn read_line(line: &[u8], frame: &mut [u8]) -> LineRead
+    requires { ⌜ length (now frame) ≡ 1600 ⌝ }
+    ensures says { λ r. ⌜ r ≡ answer (lineRead (now (line .entry))) ⌝ }
+    ensures holds { λ r. ⌜ take (sizeOf r) (now (frame .exit)) ≡ octetsOf (lineRead (now (line .entry))) ⌝ }
+{
+    if starts_frame(line) {
+        let whole = line.len();
+        if line[whole - 1] == LF {
+            let end = whole - 1;
+            if MOST_CHARACTERS < end - 6 {
+                return LineRead::BadLine(refusal::FIELD_TOO_LONG);
+            }
+            return crate::hex::decode(&line[6..end], frame);
+        }
+        if MOST_CHARACTERS < whole - 6 {
+            return LineRead::BadLine(refusal::FIELD_TOO_LONG);
+        }
+        return LineRead::BadLine(refusal::HEX_MALFORMED);
+    }
+    LineRead::BadLine(refusal::HEX_MALFORMED)
+}
