@@ -1,0 +1,59 @@
+-- The payload of a sub-frame that a step yields is a part of the frame; and each contract has one answer.
+use Prim.Native.Nat.{ℕ, _+_, _≤_}
+use mathlib.Core.Path.{_≡_, refl, sym, ap, subst, _∙_}
+use mathlib.Core.List.{List}
+use lib.ListN.{length}
+use denote.Ref.{RefT, ptr, now}
+use native.Mathlib.Omega.{arith}
+use Rattle.frame.specs.declared.header.SubFrame.{SubFrame}
+use Rattle.frame.specs.declared.header.Header.{Header}
+use Rattle.frame.specs.declared.header.Header.the-variants as header
+use Rattle.frame.specs.Header.{headerAt}
+use Rattle.frame.specs.Opening.{endOf}
+use Rattle.frame.proofs.HeaderInverse as inverse
+use Rattle.reader.specs.declared.Found.{Found}
+use Rattle.reader.specs.declared.Found.the-variants.{Sound, Refused, Sub, NoMore}
+use Rattle.reader.specs.declared.Place.{Place}
+use Rattle.reader.specs.declared.Reader.{Reader}
+use Rattle.reader.specs.Reading.{met, nextOf, opened, stepped, payloadOf, payloadAt}
+use Rattle.reader.specs.Claims.{WithinTheFrame, PayloadsArePartsOfTheFrame, OneAnswer}
+use Rattle.reader.proofs.Cases as cases
+
+-- a step finds a sub-frame only where a header tells it
+same-sub : (f : Found) (x y : SubFrame) → f ≡ Sub x → f ≡ Sub y → x ≡ y
+same-sub f x y p q = cc
+
+never-refused : {A : Type 0} (f : Found) (number at : ℕ) (sub : SubFrame) → f ≡ Refused number at → f ≡ Sub sub → A
+never-refused f number at sub p q = let z : _≡_ {A = ℕ} 0 1 = cc in absurd (omega arith)
+
+never-none : {A : Type 0} (f : Found) (sub : SubFrame) → f ≡ NoMore → f ≡ Sub sub → A
+never-none f sub p q = let z : _≡_ {A = ℕ} 0 1 = cc in absurd (omega arith)
+
+module _ (s : List ℕ) (at : ℕ) (sub : SubFrame) (e : nextOf s at .found ≡ Sub sub) where
+  told : (h : Header) → headerAt s at ≡ h → headerAt s at ≡ header.Sub sub
+  told (header.Sub x) t = t ∙ ap (λ (y : SubFrame). header.Sub y) (same-sub _ x sub (ap (λ (p : Place). p .found) (cases.goes-on s at (header.Sub x) t)) e)
+  told (header.Bad number) t = never-refused _ number at sub (ap (λ (p : Place). p .found) (cases.goes-on s at (header.Bad number) t)) e
+  told header.Past t = never-none _ sub (ap (λ (p : Place). p .found) (cases.goes-on s at header.Past t)) e
+
+  ends-within : endOf sub ≤ length s
+  ends-within = inverse.ends-within s at sub (told (headerAt s at) refl)
+
+pub payloads-are-parts-of-the-frame : PayloadsArePartsOfTheFrame
+payloads-are-parts-of-the-frame r sub e =
+    let s = now (r .frame) in
+    let within = ends-within s (r .at) sub e in
+    let w = cases.whole s (ptr (r .frame)) (sub .start) (sub .len) within in
+    record {
+      within = within;
+      octets = ap (payloadOf s) e ∙ w .0;
+      place = ap (payloadAt s (ptr (r .frame))) e ∙ w .1;
+    }
+
+pub one-answer : OneAnswer
+one-answer =
+    record {
+      open-one = λ frame p q a b. a ∙ sym b;
+      step-one = λ r p q a b. a ∙ sym b;
+      payload-one = λ r x y a b. (a .0 ∙ sym (b .0), a .1 ∙ sym (b .1));
+      step-from-one = λ s at p q a b. a ∙ sym b;
+    }
