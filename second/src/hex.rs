@@ -12,7 +12,7 @@ fn digit(character: u8) -> Option<u8> {
 /// The octets that a run of lower-case hex stands for: none when the count is
 /// odd or another character is there.
 pub fn read(characters: &[u8]) -> Option<Vec<u8>> {
-    if !characters.len().is_multiple_of(2) {
+    if characters.len() % 2 != 0 {
         return None;
     }
     let mut octets = Vec::with_capacity(characters.len() / 2);

@@ -139,7 +139,7 @@ impl SignallingSender {
         self.before = samples[PERIOD_SAMPLES - 1];
         if self.quiet <= QUIET_SENT {
             self.send(samples, alarm).map(Some)
-        } else if (self.quiet - QUIET_SENT).is_multiple_of(QUIET_REPEAT) {
+        } else if (self.quiet - QUIET_SENT) % QUIET_REPEAT == 0 {
             Ok(Some(self.repeat(alarm)))
         } else {
             Ok(None)

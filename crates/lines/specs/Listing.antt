@@ -72,7 +72,8 @@ abbrev pub afterText : Reading → List ℕ → List ℕ
 afterText (refused number line) rest = textListing number line
 afterText (taken es) rest = linesListing (length rest) 0 (tableOf es) rest
 
--- What is printed for a whole input.
+-- What is printed for a whole input. The code prints it piece by piece (Stream.antt); that the pieces join to this is compared, not
+-- proved.
 unfoldable pub listing : List ℕ → List ℕ
 listing input = afterText (reading (take (textEnd input) input)) (drop (textEnd input) input)
 

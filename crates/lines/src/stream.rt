@@ -72,7 +72,7 @@ pub fn list_piece(
     }
 }
 
-// Lists a last line that lacks its LF, and answers how many octets are listed.
+// Lists a last line that lacks its LF, and answers how many octets are listed: none where there is no such line, or no room.
 pub fn list_last(begun: Begun, kept: &[u8], table: &[u16; 256], out: &mut [u8]) -> usize
     ensures says { λ r. ⌜ r ≡ length (lastListed (length (now (out .entry))) (now (table .entry)) begun (now (kept .entry))) ⌝ }
     ensures holds { λ r. ⌜ now (out .exit) ≡ written (now (out .entry)) 0 (lastListed (length (now (out .entry))) (now (table .entry)) begun (now (kept .entry))) ⌝ }

@@ -46,7 +46,7 @@ pub record WithinTheFrame (r : Reader) (sub : SubFrame) : Type 0 where
 abbrev pub PayloadsArePartsOfTheFrame : Type 0
 PayloadsArePartsOfTheFrame = (r : Reader) (sub : SubFrame) → stepped r .found ≡ Sub sub → WithinTheFrame r sub
 
--- One answer only: two results that meet a contract for the same argument are the same. A reader's frame is the same part of
+-- One answer only: two results equal to what a contract names for the same argument are the same. A reader's frame is the same part of
 -- memory, and a payload has the same octets in the same place.
 abbrev pub IsPayload : Reader → RefT (List ℕ) → Type 0
 IsPayload r x = (now x ≡ payloadOf (now (r .frame)) (r .found)) × (ptr x ≡ payloadAt (now (r .frame)) (ptr (r .frame)) (r .found))

@@ -24,7 +24,8 @@ pub struct Place {
     pub found: Found,
 }
 
-// A frame reader: the lent frame, its place in it, and what the last call found. Only `open` makes one.
+// A frame reader: the lent frame, its place in it, and what the last call found. Its frame and its
+// place are set here alone.
 pub struct Reader<'a> {
     frame: &'a [u8],
     at: usize,
@@ -126,7 +127,8 @@ pub fn payload<'a>(reader: Reader<'a>) -> &'a [u8]
     part(reader.frame, reader.found)
 }
 
-// One step of a reader that stands at a place of a frame: for callers that hold no reader.
+// One step of a reader that stands at a place of a frame: for callers that hold no reader, of a frame that `open` found sound.
+// It looks at this one header, so it gives no 1, 2 or 8.
 pub fn step_from(frame: &[u8], at: usize) -> Place
     ensures { λ r. ⌜ r ≡ nextOf (now (frame .entry)) at ⌝ }
 {

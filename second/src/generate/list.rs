@@ -63,7 +63,7 @@ fn field_of(pieces: &[Piece]) -> Vec<u8> {
     for (index, piece) in pieces.iter().enumerate() {
         let next = pieces.get(index + 1);
         let room = field.len() + piece.payload.len() + 3;
-        let full = next.is_some_and(|next| room + next.payload.len() + 3 > FIELD_OCTETS);
+        let full = next.map_or(false, |next| room + next.payload.len() + 3 > FIELD_OCTETS);
         let last = next.is_none() || full || piece.payload.len() > 255;
         field.extend(piece.octets(last));
         if last {

@@ -202,7 +202,7 @@ pub fn write(fax: &Fax) -> Result<Vec<u8>, Refusal> {
     check_command(number, fax.stamp.is_some())?;
     check_length(number, octets_of(&fax.command))?;
     let rest = write_command(&fax.command)?;
-    if fax.sequence > 15 || fax.stamp.is_some_and(|stamp| stamp > MOST_STAMP) {
+    if fax.sequence > 15 || fax.stamp.map_or(false, |stamp| stamp > MOST_STAMP) {
         return Err(OUT_OF_RANGE);
     }
     let mut octets = vec![fax.sequence << 3 | number];
