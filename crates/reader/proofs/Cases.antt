@@ -11,8 +11,7 @@ use Rattle.frame.specs.Header.{headerAt}
 use Rattle.frame.specs.Opening.{opening}
 use Rattle.reader.specs.declared.Found.{Found}
 use Rattle.reader.specs.declared.Found.the-variants.{Sound, Refused}
-use Rattle.reader.specs.declared.Place.{Place}
-use Rattle.reader.specs.Reading.{begun, startOf, met, nextOf, cutOf, cutAt, payloadOf, payloadAt}
+use Rattle.reader.specs.Reading.{startOf, met, nextOf, cutOf, cutAt, payloadOf, payloadAt}
 
 module _ (s : List ℕ) where
   pub sound-start : opening s .number ≡ sound → startOf s ≡ record { at = 0; found = Sound }

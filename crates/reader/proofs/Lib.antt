@@ -1,3 +1,4 @@
 pub mod Cases
 pub mod Yields
 pub mod Parts
+pub mod OneAnswer

@@ -1,9 +1,9 @@
--- The payload of a sub-frame that a step yields is a part of the frame; and each contract has one answer.
-use Prim.Native.Nat.{ℕ, _+_, _≤_}
-use mathlib.Core.Path.{_≡_, refl, sym, ap, subst, _∙_}
+-- The payload of a sub-frame that a step yields is a part of the frame.
+use Prim.Native.Nat.{ℕ, _≤_}
+use mathlib.Core.Path.{_≡_, refl, ap, _∙_}
 use mathlib.Core.List.{List}
 use lib.ListN.{length}
-use denote.Ref.{RefT, ptr, now}
+use denote.Ref.{ptr, now}
 use native.Mathlib.Omega.{arith}
 use Rattle.frame.specs.declared.header.SubFrame.{SubFrame}
 use Rattle.frame.specs.declared.header.Header.{Header}
@@ -12,11 +12,10 @@ use Rattle.frame.specs.Header.{headerAt}
 use Rattle.frame.specs.Opening.{endOf}
 use Rattle.frame.proofs.HeaderInverse as inverse
 use Rattle.reader.specs.declared.Found.{Found}
-use Rattle.reader.specs.declared.Found.the-variants.{Sound, Refused, Sub, NoMore}
+use Rattle.reader.specs.declared.Found.the-variants.{Refused, Sub, NoMore}
 use Rattle.reader.specs.declared.Place.{Place}
-use Rattle.reader.specs.declared.Reader.{Reader}
-use Rattle.reader.specs.Reading.{met, nextOf, opened, stepped, payloadOf, payloadAt}
-use Rattle.reader.specs.Claims.{WithinTheFrame, PayloadsArePartsOfTheFrame, OneAnswer}
+use Rattle.reader.specs.Reading.{nextOf, payloadOf, payloadAt}
+use Rattle.reader.specs.Claims.{PayloadsArePartsOfTheFrame}
 use Rattle.reader.proofs.Cases as cases
 
 -- a step finds a sub-frame only where a header tells it
@@ -47,13 +46,4 @@ payloads-are-parts-of-the-frame r sub e =
       within = within;
       octets = ap (payloadOf s) e ∙ w .0;
       place = ap (payloadAt s (ptr (r .frame))) e ∙ w .1;
-    }
-
-pub one-answer : OneAnswer
-one-answer =
-    record {
-      open-one = λ frame p q a b. a ∙ sym b;
-      step-one = λ r p q a b. a ∙ sym b;
-      payload-one = λ r x y a b. (a .0 ∙ sym (b .0), a .1 ∙ sym (b .1));
-      step-from-one = λ s at p q a b. a ∙ sym b;
     }

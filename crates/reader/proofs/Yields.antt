@@ -1,7 +1,7 @@
 -- Stepping through a frame yields the opened list: each step is a turn of the scan, and past the last there is no header.
 use Prim.Native.Nat.{ℕ, zero, suc, _+_, _-_, _<_, _≤_}
 use mathlib.Core.Path.{_≡_, refl, sym, ap, subst, _∙_}
-use mathlib.Core.List.{List, [], _∷_, _++_, map}
+use mathlib.Core.List.{List, _∷_, _++_, map}
 use mathlib.Core.Bool.{Bool, true, false}
 use mathlib.Core.Logic.{⊎-elim}
 use native.Mathlib.Omega.{arith}
@@ -21,7 +21,7 @@ use Rattle.reader.specs.declared.Found.{Found}
 use Rattle.reader.specs.declared.Found.the-variants.{Sound, Refused, Sub, NoMore}
 use Rattle.reader.specs.declared.Place.{Place}
 use Rattle.reader.specs.declared.Reader.{Reader}
-use Rattle.reader.specs.Reading.{startOf, met, opened, stepped}
+use Rattle.reader.specs.Reading.{startOf, met, stepped}
 use Rattle.reader.specs.Claims.{yields, SaysSo, YieldsTheOpenedList}
 use Rattle.reader.proofs.Cases as cases
 

@@ -24,8 +24,8 @@ pub struct Place {
     pub found: Found,
 }
 
-// A frame reader: the lent frame, its place in it, and what the last call found. Its frame and its
-// place are set here alone.
+// A frame reader: the lent frame, its place in it, and what the last call found. Other crates get their first from
+// `open` alone.
 pub struct Reader<'a> {
     frame: &'a [u8],
     at: usize,

@@ -13,3 +13,4 @@ pub mod Writer
 pub mod Card
 pub mod Lines
 pub mod Cabinet
+pub mod Reader

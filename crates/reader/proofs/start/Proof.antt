@@ -1,10 +1,10 @@
 -- `reader::start` meets its contract: what opening the frame tells decides.
 use borrow.Author.Needs.{needs}
-use mathlib.Core.Path.{_≡_, sym, ap, _∙_}
+use Prim.Native.Nat.{ℕ}
+use mathlib.Core.Path.{sym, ap, ap₂, _∙_}
+use lib.ListN.{length}
 use Rattle.frame.specs.declared.opening.Opened.{Opened}
-use Rattle.frame.specs.Opening.{opening}
 use Rattle.reader.specs.declared.Found.the-variants.{Refused}
-use Rattle.reader.specs.declared.Place.{Place}
 use Rattle.reader.proofs.Cases as cases
 use Rattle.reader.proofs.start.Statement.{statement}
 use Rattle.reader.proofs.start.Tie as tie
@@ -23,7 +23,7 @@ returns-2 c =
     let number = ap (λ (o : Opened). o .number) (c .before .«open» .ensures) in
     let at = ap (λ (o : Opened). o .at) (c .before .«open» .ensures) in
     let e = cases.refused-start s (λ z. c .if1 .left (number ∙ z)) in
-    rw (number, at) (sym e)
+    ap₂ (λ (n p : ℕ). record { at = length s; found = Refused n p }) number at ∙ sym e
 
 pub start-spec : {M : Type 1} → statement M
 start-spec = tie.close (tie.spec open-requires returns returns-2)
