@@ -3,7 +3,19 @@ use crate::listing::MOST_LISTED;
 ghost use mathlib.Core.Path.{_≡_};
 ghost use lib.ListN.{length};
 ghost use Rattle.octets.specs.Room.{written};
+ghost use Rattle.lines.specs.Claims.{mostKept};
 ghost use Rattle.lines.specs.Stream.{nextNumber, pieceListed, answer, lastListed};
+
+// The room for the present line: the octets that decide its listing (`StartDecides`), that is `frame=`, 3,200 characters, and
+// one more.
+pub const MOST_KEPT: usize = 3207;
+
+// The same, as the definition has it.
+pub fn most_kept() -> usize
+    ensures { λ r. ⌜ r ≡ mostKept ⌝ }
+{
+    MOST_KEPT
+}
 
 // Between two pieces: how many octets of the present line are kept, and its frame number.
 pub struct Begun {

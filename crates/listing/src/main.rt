@@ -6,9 +6,6 @@ use record::text::TextAnswer;
 ghost use Prim.Native.Nat.{_≤_};
 ghost use lib.ListN.{length};
 
-// The octets of a line that decide its listing: `frame=`, 3,200 characters, and one more.
-const MOST_KEPT: usize = 3207;
-
 // Prints what is listed.
 fn print(out: &[u8], used: usize)
     requires { ⌜ used ≤ length (now out) ⌝ }
@@ -93,7 +90,7 @@ fn list_rest(
 fn main() {
     let mut input = io::large_buffer();
     let mut out = io::large_buffer();
-    let mut kept = [0u8; MOST_KEPT];
+    let mut kept = [0u8; lines::stream::MOST_KEPT];
     let mut table = [0u16; 256];
     let n = io::read_full(libc::STDIN_FILENO, &mut input);
     let end = lines::pieces::text_end(&input[..n]);

@@ -16,6 +16,8 @@ use Rattle.lines.proofs.pieces.line_end.Kinds as pieces-line-end-kinds
 use Rattle.lines.proofs.pieces.line_end.Reads as pieces-line-end-reads
 use Rattle.lines.proofs.pieces.keep.Kinds as pieces-keep-kinds
 use Rattle.lines.proofs.pieces.keep.Reads as pieces-keep-reads
+use Rattle.lines.proofs.stream.most_kept.Kinds as stream-most-kept-kinds
+use Rattle.lines.proofs.stream.most_kept.Reads as stream-most-kept-reads
 use Rattle.lines.proofs.stream.after.Kinds as stream-after-kinds
 use Rattle.lines.proofs.stream.after.Reads as stream-after-reads
 use Rattle.lines.proofs.stream.list_piece.Kinds as stream-list-piece-kinds
@@ -40,6 +42,9 @@ pieces-line-end κs a x y s t p q = (p ∙ sym q, refl)
 
 pub pieces-keep : OneAnswer 2 pieces-keep-kinds.ps pieces-keep-kinds.r (λ κs s. now (s .0)) pieces-keep-reads.Post
 pieces-keep κs a x y s t p q = (p .0 ∙ sym (q .0), cc)
+
+pub stream-most-kept : OneAnswer 0 stream-most-kept-kinds.ps stream-most-kept-kinds.r nothing stream-most-kept-reads.Post
+stream-most-kept κs a x y s t p q = (p ∙ sym q, refl)
 
 pub stream-after : OneAnswer 0 stream-after-kinds.ps stream-after-kinds.r nothing stream-after-reads.Post
 stream-after κs a x y s t p q = (p ∙ sym q, refl)
