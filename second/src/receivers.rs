@@ -522,8 +522,9 @@ mod tests {
         arrived: &[bool],
         fill: impl Fn(T) -> T,
     ) -> Vec<Period<T>> {
-        let Some(first) = arrived.iter().position(|it| *it) else {
-            return Vec::new();
+        let first = match arrived.iter().position(|it| *it) {
+            Some(first) => first,
+            None => return Vec::new(),
         };
         let last = arrived.iter().rposition(|it| *it).unwrap();
         let mut record = Vec::new();
@@ -593,8 +594,9 @@ mod tests {
             }
             sample = samples[9];
             let alarm = random.one_in(2);
-            let Some(payload) = sender.enter(&samples, alarm).unwrap() else {
-                continue;
+            let payload = match sender.enter(&samples, alarm).unwrap() {
+                Some(payload) => payload,
+                None => continue,
             };
             let repeat = number == Some(payload[0] & 127);
             number = Some(payload[0] & 127);

@@ -390,7 +390,10 @@ mod tests {
                 let first = index.saturating_sub(3);
                 let due = (first..=index).any(active);
                 assert_eq!(payload.is_some(), due);
-                let Some(payload) = payload else { continue };
+                let payload = match payload {
+                    Some(payload) => payload,
+                    None => continue,
+                };
                 let entry = entries[index];
                 let code = if entry.on { entry.code } else { 0 };
                 history.push([u8::from(entry.on) * 32 + entry.edge, code]);

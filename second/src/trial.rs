@@ -75,29 +75,33 @@ fn read_start(octets: &[u8]) -> Option<Command> {
 
 /// The octets of `digit=`: who, type, code, edge, level.
 fn read_digit(octets: &[u8]) -> Option<Command> {
-    let [first, digit_type, code, edge, level] = *octets else {
-        return None;
-    };
-    let entry = DigitEntry {
-        on: zero_or_one(digit_type)?,
-        code,
-        edge,
-        level: level as i8,
-    };
-    Some(Command::Digit(who(first)?, entry))
+    match *octets {
+        [first, digit_type, code, edge, level] => {
+            let entry = DigitEntry {
+                on: zero_or_one(digit_type)?,
+                code,
+                edge,
+                level: level as i8,
+            };
+            Some(Command::Digit(who(first)?, entry))
+        }
+        _ => None,
+    }
 }
 
 /// The octets of `samples=`: who, alarm, ten samples.
 fn read_samples(octets: &[u8]) -> Option<Command> {
-    let [first, alarm, rest @ ..] = octets else {
-        return None;
-    };
-    let samples = <[u8; PERIOD_SAMPLES]>::try_from(rest).ok()?;
-    Some(Command::Samples(
-        who(*first)?,
-        zero_or_one(*alarm)?,
-        samples,
-    ))
+    match octets {
+        [first, alarm, rest @ ..] => {
+            let samples = <[u8; PERIOD_SAMPLES]>::try_from(rest).ok()?;
+            Some(Command::Samples(
+                who(*first)?,
+                zero_or_one(*alarm)?,
+                samples,
+            ))
+        }
+        _ => None,
+    }
 }
 
 /// The octets of `digits=` and `signalling=`: who, then any number of octets.
@@ -284,7 +288,8 @@ fn print_signalling_answer(
 /// Runs the trial program from an input to an output.
 pub fn run(input: impl BufRead, mut output: impl Write) -> io::Result<()> {
     let mut lines = LineReader::new(input, CHARACTERS);
-    let mut trial = Trial::new().map_err(|number| io::Error::other(format!("refusal {number}")))?;
+    let mut trial = Trial::new()
+        .map_err(|number| io::Error::new(io::ErrorKind::Other, format!("refusal {number}")))?;
     let mut number: u64 = 0;
     while let Some(line) = lines.next_line()? {
         number += 1;

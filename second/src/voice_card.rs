@@ -104,8 +104,9 @@ mod tests {
     fn readings_payloads_that_fail_their_checks_are_passed_over() {
         let frame =
             frame("450b3100010203040506070809 450a30000102030405060708 05401112131415161718191a");
-        let Handed::Part { part, place } = hand(&frame, &table(), 5, SILENCE) else {
-            panic!();
+        let (part, place) = match hand(&frame, &table(), 5, SILENCE) {
+            Handed::Part { part, place } => (part, place),
+            _ => panic!(),
         };
         assert_eq!((part[0], part.len(), place), (0x40, 11, frame.len() - 11));
     }

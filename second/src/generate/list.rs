@@ -559,8 +559,9 @@ mod tests {
         let mut seen = BTreeMap::new();
         for _ in 0..count {
             let piece = generator.piece(true);
-            let Some(record) = table.record(piece.cid) else {
-                continue;
+            let record = match table.record(piece.cid) {
+                Some(record) => record,
+                None => continue,
             };
             let answer =
                 crate::payload::read(&table, piece.cid, piece.payload_type, &piece.payload);

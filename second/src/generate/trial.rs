@@ -533,7 +533,7 @@ mod tests {
         for fill in [0, 1, 2, 3, 4, 121, 122, 123, 124, 249, 250, 251, 252] {
             assert!(filled.contains(&fill), "no fill of {fill}");
         }
-        assert!(*filled.last().unwrap() == 252);
+        assert!(*filled.iter().next_back().unwrap() == 252);
     }
 
     #[test]
@@ -543,8 +543,9 @@ mod tests {
             let output = tried(&generated(seed, 20_000));
             let mut before = "";
             for line in output.lines() {
-                let Some(payload) = line.strip_prefix("sent=") else {
-                    continue;
+                let payload = match line.strip_prefix("sent=") {
+                    Some(payload) => payload,
+                    None => continue,
                 };
                 if payload.len() == 32 && before.len() == 32 {
                     repeats += usize::from(

@@ -218,11 +218,13 @@ pub fn as_it_comes_back<'p>(content: &Content<'p>) -> Content<'p> {
 /// all, values cut to their bits, and read; what was cut is 15, which comes
 /// last, or 16 for a coding type.
 pub fn wanted_number(table: &Table, cid: u8, content: &Content) -> Refusal {
-    let Some(record) = table.record(cid) else {
-        return 11;
+    let record = match table.record(cid) {
+        Some(record) => record,
+        None => return 11,
     };
-    let Some(payload_type) = plain_type(record.syntax, content) else {
-        return 12;
+    let payload_type = match plain_type(record.syntax, content) {
+        Some(payload_type) => payload_type,
+        None => return 12,
     };
     if let Content::Voice(voice) = content {
         let rate_missing = record.syntax == Syntax::G7231 && voice.body.is_empty();
