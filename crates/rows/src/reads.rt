@@ -1,0 +1,165 @@
+// Frames checked, opened and read, and handed to the voice card.
+use crate::fold::fold;
+use crate::fold::level;
+use crate::fold::octet;
+use card::handing::Handed;
+use data::DataRead;
+use digits::layout::DigitsRead;
+use fax::Command;
+use fax::FaxRead;
+use fax::Stamp;
+use frame::header::SubFrame;
+use payload::layout::Layout;
+use record::syntax::Record;
+use record::syntax::Syntax;
+use voice::sid::Sid;
+use voice::sid::SidRead;
+use voice::voice::VoiceRead;
+
+const CARD: u8 = 5;
+
+// The frame check.
+pub fn check(acc: u64, frame: &[u8]) -> u64 {
+    octet(acc, frame::opening::open(frame).number)
+}
+
+// What the voice card is handed: the source, the octets, the first of them.
+pub fn hand(acc: u64, frame: &[u8], silence: &[u8], table: &[u16; 256]) -> u64 {
+    match card::handing::find(frame, table, CARD) {
+        Handed::FromFrame { start, len } => handed(
+            octet(acc, 0),
+            crate::items::part(frame, start, len),
+        ),
+        Handed::FromSilence => handed(octet(acc, 255), silence),
+        Handed::NotHanded(number) => handed(octet(acc, number), &frame[..0]),
+    }
+}
+
+fn handed(acc: u64, octets: &[u8]) -> u64 {
+    octet(fold(acc, octets.len() as u64), octets::octet(octets, 0))
+}
+
+// A frame opened, and every payload read.
+pub fn read(acc: u64, frame: &[u8], table: &[u16; 256]) -> u64 {
+    let opened = frame::opening::open(frame);
+    if opened.number != 0 {
+        return fold(octet(acc, opened.number), opened.at as u64);
+    }
+    let subs = opened.subs;
+    let mut folded = acc;
+    let mut i: usize = 0;
+    while i < 64 {
+        if opened.count <= i {
+            return folded;
+        }
+        let sub = subs[i];
+        folded = read_sub(folded, frame, table, sub);
+        i += 1;
+    }
+    folded
+}
+
+fn read_sub(acc: u64, frame: &[u8], table: &[u16; 256], sub: SubFrame) -> u64 {
+    let found = record::table::record_of(table, sub.cid);
+    let payload = crate::items::part(frame, sub.start, sub.len);
+    let at = octet(octet(acc, sub.cid), sub.ptype);
+    match payload::layout::layout_of(found, sub.ptype) {
+        Layout::OfVoice(rec) => read_voice(at, rec, payload),
+        Layout::OfDigits => read_digits(at, payload),
+        Layout::OfSignalling => read_signalling(at, payload),
+        Layout::OfFax => read_fax(at, payload),
+        Layout::OfSid(syntax) => read_sid(at, syntax, payload),
+        Layout::OfData => read_data(at, payload),
+        Layout::NoLayout(number) => octet(at, number),
+    }
+}
+
+fn read_voice(acc: u64, rec: Record, payload: &[u8]) -> u64 {
+    match voice::voice::read_voice(rec, payload) {
+        VoiceRead::Voice {
+            sequence,
+            coding,
+            front,
+        } => fold(octet(octet(acc, sequence.0), coding), front as u64),
+        VoiceRead::BadVoice(number) => octet(acc, number),
+    }
+}
+
+fn read_digits(acc: u64, payload: &[u8]) -> u64 {
+    match digits::layout::read_digits(payload) {
+        DigitsRead::Dialled(digits) => crate::steps::digits(acc, digits),
+        DigitsRead::BadDigits(number) => octet(acc, number),
+    }
+}
+
+fn read_signalling(acc: u64, payload: &[u8]) -> u64 {
+    let told = signalling::layout::read_signalling(payload);
+    if told.number != 0 {
+        return octet(acc, told.number);
+    }
+    let signalling = told.signalling;
+    crate::steps::signalling(acc, signalling)
+}
+
+fn read_fax(acc: u64, payload: &[u8]) -> u64 {
+    match fax::read_fax(payload) {
+        FaxRead::Fax {
+            sequence,
+            stamp,
+            command,
+            front,
+        } => {
+            let stamped = fold(octet(acc, sequence), stamp_number(stamp));
+            fold(fold(stamped, command_number(command)), front as u64)
+        }
+        FaxRead::BadFax(number) => octet(acc, number),
+    }
+}
+
+fn stamp_number(stamp: Stamp) -> u64 {
+    match stamp {
+        Stamp::NoStamp => 65536,
+        Stamp::Stamped(time) => time as u64,
+    }
+}
+
+fn command_number(command: Command) -> u64 {
+    match command {
+        Command::Off => 0,
+        Command::On {
+            hdlc,
+            modulation,
+            frequency,
+        } => 1 + crate::fold::flag(hdlc) * 8 + modulation as u64 * 16 + frequency as u64 * 256,
+        Command::Page => 2,
+        Command::EndOfFrame => 3,
+        Command::Abort => 4,
+    }
+}
+
+fn read_sid(acc: u64, syntax: Syntax, payload: &[u8]) -> u64 {
+    match voice::sid::read_sid(syntax, payload) {
+        SidRead::Silence(sid) => match sid {
+            Sid::Noise {
+                sequence,
+                level: noise,
+            } => level(octet(acc, sequence.0), noise),
+            Sid::Plain => fold(acc, 200),
+        },
+        SidRead::BadSid(number) => octet(acc, number),
+    }
+}
+
+fn read_data(acc: u64, payload: &[u8]) -> u64 {
+    match data::read_data(payload) {
+        DataRead::Fragment {
+            begins,
+            ends,
+            sequence,
+        } => fold(
+            fold(acc, crate::fold::flag(begins) * 2 + crate::fold::flag(ends)),
+            sequence.0 as u64,
+        ),
+        DataRead::BadData(number) => octet(acc, number),
+    }
+}

@@ -1,0 +1,92 @@
+// The senders and receivers, a step at a time.
+use crate::fold::flag;
+use crate::fold::fold;
+use crate::fold::octet;
+use crate::fold::window;
+use digits::layout::Digits;
+use digits::sender::Sending;
+use signalling::layout::Signalling;
+use signalling::sender::Sent;
+
+const NOTHING: u64 = 300;
+
+pub fn digits(acc: u64, digits: Digits) -> u64 {
+    let current = digits.current;
+    let recent = digits.recent;
+    let previous = digits.previous;
+    let front = crate::fold::level(octet(acc, digits.sequence.0), digits.level);
+    window(window(window(front, current), recent), previous)
+}
+
+pub fn signalling(acc: u64, signalling: Signalling) -> u64 {
+    let front = fold(
+        fold(acc, flag(signalling.alarm)),
+        signalling.sequence.0 as u64,
+    );
+    let samples = signalling.samples;
+    crate::fold::samples(front, samples)
+}
+
+// A level of 0 to -63 dBm0, and one above zero.
+pub fn level_in(octet: u8) -> i8 {
+    if octet < 128 {
+        return levels::level_of(octet);
+    }
+    5
+}
+
+// The entry of four octets.
+pub fn digit_entry(item: &[u8]) -> digits::sender::Entry {
+    digits::sender::Entry {
+        on: octets::octet(item, 0) % 2 == 1,
+        code: octets::octet(item, 1),
+        edge: octets::octet(item, 2),
+        level: level_in(octets::octet(item, 3)),
+    }
+}
+
+pub fn sending(acc: u64, answer: Sending) -> u64 {
+    match answer {
+        Sending::BadEntry(number) => octet(acc, number),
+        Sending::Unsent => fold(acc, NOTHING),
+        Sending::Sent(payload) => digits(acc, payload),
+    }
+}
+
+pub fn received(acc: u64, received: digits::receiver::Received) -> u64 {
+    let fill = received.fill;
+    let periods = received.periods;
+    let said = octet(octet(acc, received.number), received.fills);
+    let filled = octet(window(said, fill), received.carried);
+    window(window(window(filled, periods[0]), periods[1]), periods[2])
+}
+
+// The entry of eleven octets.
+pub fn signalling_entry(item: &[u8]) -> signalling::sender::Entry {
+    let mut samples = [0u8; 10];
+    octets::put_octets(&mut samples, 0, crate::items::part(item, 1, 10));
+    signalling::sender::Entry {
+        alarm: octets::octet(item, 0) % 2 == 1,
+        samples,
+    }
+}
+
+pub fn sent(acc: u64, sent: Sent) -> u64 {
+    if sent.number != 0 {
+        return octet(acc, sent.number);
+    }
+    if sent.due {
+        let payload = sent.signalling;
+        return signalling(acc, payload);
+    }
+    fold(acc, NOTHING)
+}
+
+pub fn seized(acc: u64, received: signalling::receiver::Received) -> u64 {
+    let periods = received.periods;
+    let receiver = received.receiver;
+    let said = octet(octet(acc, received.number), received.fills);
+    let filled = octet(octet(said, received.fill), received.carried);
+    let carried = crate::fold::samples(filled, periods);
+    fold(octet(carried, receiver.value), flag(receiver.alarm))
+}
