@@ -42,13 +42,33 @@ add-from-syntax : tie.Need-add-from-syntax
 add-from-syntax c = search needs
 
 add-from-syntax-2 : tie.Need-add-from-syntax-2
-add-from-syntax-2 c = let a = c .before .before .before .before .before .before .before .before .before .before .before .args in let v = c .before .before .before .before .value .given in let is = sym (c .before .before .before .before .before .before .number .ensures) ∙ v .1 in omega (arith, c .before .before .before .before .before .before .before .before .before .before .before .pre, c .before .before .before .before .before .before .before .before .before .if1 .left, blocks.number-size (drop (a .at + 4) (a .s .now)) (v .0 .0) (v .0 .1 .0) is)
+add-from-syntax-2 c =
+    let a = c .before .before .before .before .before .before .before .before .before .before .before .args in
+    let v = c .before .before .before .before .value .given in
+    let is = sym (c .before .before .before .before .before .before .number .ensures) ∙ v .1 in
+    let within = c .before .before .before .before .before .before .before .before .before .before .before .pre in
+    let room = c .before .before .before .before .before .before .before .before .before .if1 .left in
+    let size = blocks.number-size (drop (a .at + 4) (a .s .now)) (v .0 .0) (v .0 .1 .0) is in
+    omega (arith, within, room, size)
 
 from-syntax-requires : tie.Need-from-syntax-requires
-from-syntax-requires c κs = let a = c .before .before .before .before .before .before .before .before .before .before .before .args in let v = c .before .before .before .before .value .given in let is = sym (c .before .before .before .before .before .before .number .ensures) ∙ v .1 in omega (arith, c .before .before .before .before .before .before .before .before .before .before .before .pre, c .before .before .before .before .before .before .before .before .before .if1 .left, blocks.number-size (drop (a .at + 4) (a .s .now)) (v .0 .0) (v .0 .1 .0) is)
+from-syntax-requires c κs =
+    let a = c .before .before .before .before .before .before .before .before .before .before .before .args in
+    let v = c .before .before .before .before .value .given in
+    let is = sym (c .before .before .before .before .before .before .number .ensures) ∙ v .1 in
+    let within = c .before .before .before .before .before .before .before .before .before .before .before .pre in
+    let room = c .before .before .before .before .before .before .before .before .before .if1 .left in
+    let size = blocks.number-size (drop (a .at + 4) (a .s .now)) (v .0 .0) (v .0 .1 .0) is in
+    omega (arith, within, room, size)
 
 returns-5 : tie.Need-returns-5
-returns-5 c = let a = c .before .before .before .before .before .before .before .before .before .before .before .before .args in let v = c .before .before .before .before .before .value .given in let is = sym (c .before .before .before .before .before .before .before .number .ensures) ∙ v .1 in blocks.from-cid (a .s .now) (a .at) (v .0 .0) (a .before) (v .0 .1 .0) (c .from-syntax .result) (omega arith) (c .before .before .before .before .before .before .before .before .before .four .ensures (c .before .before .before .before .before .before .before .before .if2 .taken)) is (c .before .before .before .if3 .left) (c .before .before .if4 .left) (c .before .if5 .left) (c .from-syntax .ensures)
+returns-5 c =
+    let a = c .before .before .before .before .before .before .before .before .before .before .before .before .args in
+    let v = c .before .before .before .before .before .value .given in
+    let is = sym (c .before .before .before .before .before .before .before .number .ensures) ∙ v .1 in
+    blocks.from-cid (a .s .now) (a .at) (v .0 .0) (a .before) (v .0 .1 .0) (c .from-syntax .result) (omega arith)
+    (c .before .before .before .before .before .before .before .before .before .four .ensures (c .before .before .before .before .before .before .before .before .if2 .taken))
+    is (c .before .before .before .if3 .left) (c .before .before .if4 .left) (c .before .if5 .left) (c .from-syntax .ensures)
 
 enum-told : tie.Need-enum-told
 enum-told c = search needs

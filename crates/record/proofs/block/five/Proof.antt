@@ -19,8 +19,11 @@ shared-slice-read-result : tie.Need-shared-slice-read-result
 shared-slice-read-result c = search needs
 
 returns : tie.Need-returns
-returns c = let a = c .before .before .before .before .args in λ same.
-    blocks.one-more (a .s .now) (a .at) (a .a ∷ a .b ∷ a .c ∷ a .d ∷ []) (a .e) (c .before .before .four .ensures (c .before .if1 .taken)) (omega arith) (eqb-true _ _ same)
+returns c =
+    let a = c .before .before .before .before .args in
+    λ same.
+    blocks.one-more (a .s .now) (a .at) (a .a ∷ a .b ∷ a .c ∷ a .d ∷ []) (a .e) (c .before .before .four .ensures (c .before .if1 .taken))
+    (omega arith) (eqb-true _ _ same)
 
 returns-2 : tie.Need-returns-2
 returns-2 c = λ same. absurd (values.true-not-false (sym same))

@@ -34,10 +34,14 @@ joined-requires-2 : tie.Need-joined-requires-2
 joined-requires-2 c κs = search needs
 
 returns : tie.Need-returns
-returns c = let a = c .before .before .before .before .before .before .before .args in λ same.
+returns c =
+    let a = c .before .before .before .before .before .before .before .args in
+    let octet = c .before .before .before .before .before .before .shared-slice-known .given in
+    λ same.
     blocks.four-stand (a .s .now) (a .at) (a .a) (a .b) (a .c) (a .d) (omega arith)
-    (blocks.same-four (omega (arith, c .before .before .before .before .before .before .shared-slice-known .given (a .at))) (omega (arith, c .before .before .before .before .before .before .shared-slice-known .given (a .at + 1))) (omega (arith, c .before .before .before .before .before .before .shared-slice-known .given (a .at + 2))) (omega (arith, c .before .before .before .before .before .before .shared-slice-known .given (a .at + 3))) (omega arith) (omega arith) (omega arith) (omega arith)
-    (c .before .joined .ensures) (c .joined2 .ensures) same)
+    (blocks.same-four (omega (arith, octet (a .at))) (omega (arith, octet (a .at + 1))) (omega (arith, octet (a .at + 2)))
+    (omega (arith, octet (a .at + 3))) (omega arith) (omega arith) (omega arith) (omega arith) (c .before .joined .ensures) (c .joined2 .ensures)
+    same)
 
 pub four-spec : {M : Type 1} → statement M
 four-spec =

@@ -48,19 +48,38 @@ add-from-seq : tie.Need-add-from-seq
 add-from-seq c = search needs
 
 add-from-seq-2 : tie.Need-add-from-seq-2
-add-from-seq-2 c = let a = c .before .before .before .before .before .before .before .before .before .before .before .before .args in let v = c .before .before .before .before .value .given in let is = sym (c .before .before .before .before .before .before .number .ensures) ∙ v .1 in omega (arith, c .before .before .before .before .before .before .before .before .before .before .before .before .pre, blocks.number-size (drop (a .at + 2) (a .s .now)) (v .0 .0) (v .0 .1 .0) is)
+add-from-seq-2 c =
+    let a = c .before .before .before .before .before .before .before .before .before .before .before .before .args in
+    let v = c .before .before .before .before .value .given in
+    let is = sym (c .before .before .before .before .before .before .number .ensures) ∙ v .1 in
+    let room = c .before .before .before .before .before .before .before .before .before .before .before .before .pre in
+    let size = blocks.number-size (drop (a .at + 2) (a .s .now)) (v .0 .0) (v .0 .1 .0) is in
+    omega (arith, room, size)
 
 cast-from-seq : tie.Need-cast-from-seq
 cast-from-seq c = search needs
 
 from-seq-requires : tie.Need-from-seq-requires
-from-seq-requires c κs = let a = c .before .before .before .before .before .before .before .before .before .before .before .before .args in let v = c .before .before .before .before .value .given in let is = sym (c .before .before .before .before .before .before .number .ensures) ∙ v .1 in omega (arith, c .before .before .before .before .before .before .before .before .before .before .before .before .pre, blocks.number-size (drop (a .at + 2) (a .s .now)) (v .0 .0) (v .0 .1 .0) is)
+from-seq-requires c κs =
+    let a = c .before .before .before .before .before .before .before .before .before .before .before .before .args in
+    let v = c .before .before .before .before .value .given in
+    let is = sym (c .before .before .before .before .before .before .number .ensures) ∙ v .1 in
+    let room = c .before .before .before .before .before .before .before .before .before .before .before .before .pre in
+    let size = blocks.number-size (drop (a .at + 2) (a .s .now)) (v .0 .0) (v .0 .1 .0) is in
+    omega (arith, room, size)
 
 enum-told : tie.Need-enum-told
 enum-told c = search needs
 
 returns-5 : tie.Need-returns-5
-returns-5 c = let a = c .before .before .before .before .before .before .before .before .before .before .before .before .before .args in let v = c .before .before .before .before .before .value .given in let is = sym (c .before .before .before .before .before .before .before .number .ensures) ∙ v .1 in blocks.from-m (a .s .now) (a .at) (a .cid) (a .syntax) (v .0 .0) (v .0 .1 .0) (c .from-seq .result) (omega arith) (c .before .before .before .before .before .before .before .before .before .before .if1 .left) (c .before .before .before .before .before .before .before .before .if2 .left) is (c .before .before .before .if3 .left) (rw (c .before .before .most-m .ensures) at (c .before .if4 .left)) (c .from-seq .ensures)
+returns-5 c =
+    let a = c .before .before .before .before .before .before .before .before .before .before .before .before .before .args in
+    let v = c .before .before .before .before .before .value .given in
+    let is = sym (c .before .before .before .before .before .before .before .number .ensures) ∙ v .1 in
+    blocks.from-m (a .s .now) (a .at) (a .cid) (a .syntax) (v .0 .0) (v .0 .1 .0) (c .from-seq .result) (omega arith)
+    (c .before .before .before .before .before .before .before .before .before .before .if1 .left)
+    (c .before .before .before .before .before .before .before .before .if2 .left) is (c .before .before .before .if3 .left)
+    (rw (c .before .before .most-m .ensures) at (c .before .if4 .left)) (c .from-seq .ensures)
 
 returns-6 : tie.Need-returns-6
 returns-6 c = search needs

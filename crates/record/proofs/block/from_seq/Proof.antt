@@ -30,10 +30,22 @@ add-t15 : tie.Need-add-t15
 add-t15 c = search needs
 
 add-t16 : tie.Need-add-t16
-add-t16 c = let a = c .before .before .before .before .before .before .before .before .before .before .args in let v = c .before .before .before .before .value .given in let is = sym (c .before .before .before .before .before .before .number .ensures) ∙ v .1 in omega (arith, c .before .before .before .before .before .before .before .before .before .before .pre, blocks.number-size (drop (a .at + 4) (a .s .now)) (v .0 .0) (v .0 .1 .0) is)
+add-t16 c =
+    let a = c .before .before .before .before .before .before .before .before .before .before .args in
+    let v = c .before .before .before .before .value .given in
+    let is = sym (c .before .before .before .before .before .before .number .ensures) ∙ v .1 in
+    let room = c .before .before .before .before .before .before .before .before .before .before .pre in
+    let size = blocks.number-size (drop (a .at + 4) (a .s .now)) (v .0 .0) (v .0 .1 .0) is in
+    omega (arith, room, size)
 
 returns-2 : tie.Need-returns-2
-returns-2 c = let a = c .before .before .before .before .before .before .before .before .before .before .args in let v = c .before .before .before .before .value .given in let is = sym (c .before .before .before .before .before .before .number .ensures) ∙ v .1 in blocks.from-seq (a .s .now) (a .at) (a .cid) (a .syntax) (a .m) (v .0 .0) (v .0 .1 .0) (omega arith) (c .before .before .before .before .before .before .before .before .four .ensures (c .before .before .before .before .before .before .before .if1 .taken)) is (c .before .before .if2 .left) (sym (c .before .seq-listed .ensures) ∙ c .if3 .taken)
+returns-2 c =
+    let a = c .before .before .before .before .before .before .before .before .before .before .args in
+    let v = c .before .before .before .before .value .given in
+    let is = sym (c .before .before .before .before .before .before .number .ensures) ∙ v .1 in
+    blocks.from-seq (a .s .now) (a .at) (a .cid) (a .syntax) (a .m) (v .0 .0) (v .0 .1 .0) (omega arith)
+    (c .before .before .before .before .before .before .before .before .four .ensures (c .before .before .before .before .before .before .before .if1 .taken))
+    is (c .before .before .if2 .left) (sym (c .before .seq-listed .ensures) ∙ c .if3 .taken)
 
 returns-3 : tie.Need-returns-3
 returns-3 c = search needs

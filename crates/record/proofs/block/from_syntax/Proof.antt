@@ -31,13 +31,32 @@ add-from-m : tie.Need-add-from-m
 add-from-m c = search needs
 
 add-from-m-2 : tie.Need-add-from-m-2
-add-from-m-2 c = let a = c .before .before .before .before .before .before .before .before .before .args in let w = c .before .syntax .given in let is = blocks.word-told (drop (a .at + 7) (a .s .now)) (w .0 .0) (w .0 .1 .0) (c .before .before .before .word .ensures) (w .1) in omega (arith, c .before .before .before .before .before .before .before .before .before .pre, lines.word-small (drop (a .at + 7) (a .s .now)) (w .0 .0) (w .0 .1 .0) is)
+add-from-m-2 c =
+    let a = c .before .before .before .before .before .before .before .before .before .args in
+    let w = c .before .syntax .given in
+    let is = blocks.word-told (drop (a .at + 7) (a .s .now)) (w .0 .0) (w .0 .1 .0) (c .before .before .before .word .ensures) (w .1) in
+    let room = c .before .before .before .before .before .before .before .before .before .pre in
+    let size = lines.word-small (drop (a .at + 7) (a .s .now)) (w .0 .0) (w .0 .1 .0) is in
+    omega (arith, room, size)
 
 from-m-requires : tie.Need-from-m-requires
-from-m-requires c κs = let a = c .before .before .before .before .before .before .before .before .before .args in let w = c .before .syntax .given in let is = blocks.word-told (drop (a .at + 7) (a .s .now)) (w .0 .0) (w .0 .1 .0) (c .before .before .before .word .ensures) (w .1) in omega (arith, c .before .before .before .before .before .before .before .before .before .pre, lines.word-small (drop (a .at + 7) (a .s .now)) (w .0 .0) (w .0 .1 .0) is)
+from-m-requires c κs =
+    let a = c .before .before .before .before .before .before .before .before .before .args in
+    let w = c .before .syntax .given in
+    let is = blocks.word-told (drop (a .at + 7) (a .s .now)) (w .0 .0) (w .0 .1 .0) (c .before .before .before .word .ensures) (w .1) in
+    let room = c .before .before .before .before .before .before .before .before .before .pre in
+    let size = lines.word-small (drop (a .at + 7) (a .s .now)) (w .0 .0) (w .0 .1 .0) is in
+    omega (arith, room, size)
 
 returns : tie.Need-returns
-returns c = let a = c .before .before .before .before .before .before .before .before .before .before .args in let w = c .before .before .syntax .given in let is = blocks.word-told (drop (a .at + 7) (a .s .now)) (w .0 .0) (w .0 .1 .0) (c .before .before .before .before .word .ensures) (w .1) in blocks.from-syntax (a .s .now) (a .at) (a .cid) (w .0 .0) (w .0 .1 .0) (c .from-m .result) (omega arith) (blocks.syntax-key (a .s .now) (a .at) (c .before .before .before .before .before .before .before .before .four .ensures (c .before .before .before .before .before .before .before .if1 .taken)) (c .before .before .before .before .before .before .four2 .ensures (c .before .before .before .before .before .if2 .taken))) is (c .from-m .ensures)
+returns c =
+    let a = c .before .before .before .before .before .before .before .before .before .before .args in
+    let w = c .before .before .syntax .given in
+    let is = blocks.word-told (drop (a .at + 7) (a .s .now)) (w .0 .0) (w .0 .1 .0) (c .before .before .before .before .word .ensures) (w .1) in
+    let keyed = blocks.syntax-key (a .s .now) (a .at)
+    (c .before .before .before .before .before .before .before .before .four .ensures (c .before .before .before .before .before .before .before .if1 .taken))
+    (c .before .before .before .before .before .before .four2 .ensures (c .before .before .before .before .before .if2 .taken)) in
+    blocks.from-syntax (a .s .now) (a .at) (a .cid) (w .0 .0) (w .0 .1 .0) (c .from-m .result) (omega arith) keyed is (c .from-m .ensures)
 
 enum-told : tie.Need-enum-told
 enum-told c = search needs

@@ -30,7 +30,9 @@ number-by-requires : tie.Need-number-by-requires
 number-by-requires c κs = search needs
 
 returns : tie.Need-returns
-returns c = let a = c .before .before .before .before .before .before .args in c .number-by .ensures ∙ blocks.number-at (a .s .now) (a .at) refl refl refl refl
+returns c =
+    let a = c .before .before .before .before .before .before .args in
+    c .number-by .ensures ∙ blocks.number-at (a .s .now) (a .at) refl refl refl refl
 
 pub number-spec : {M : Type 1} → statement M
 number-spec =

@@ -55,13 +55,19 @@ add-blocks c =
 loop-less : tie.Need-loop-less Inv-loop μ-loop Inv-loop2 μ-loop2
 loop-less c =
     let w = c .before .before .cid .given in
-    let ended = blocks.block-told 4 (afterBlock (c .before .before .before .before .before .loop .before)) (c .before .before .before .before .before .before .before .before .args .text .now) (c .before .before .before .before .before .loop .at) (c .before .before .before .before .block-at .result) (w .0 .0) (w .0 .1 .0) (w .0 .1 .1 .0) (c .before .before .before .before .block-at .ensures) (w .1) in
+    let ended = blocks.block-told 4 (afterBlock (c .before .before .before .before .before .loop .before))
+    (c .before .before .before .before .before .before .before .before .args .text .now) (c .before .before .before .before .before .loop .at)
+    (c .before .before .before .before .block-at .result) (w .0 .0) (w .0 .1 .0) (w .0 .1 .1 .0)
+    (c .before .before .before .before .block-at .ensures) (w .1) in
     omega (arith, ended .past, ended .within)
 
 loop-again : tie.Need-loop-again Inv-loop μ-loop Inv-loop2 μ-loop2
 loop-again c =
     let w = c .before .before .cid .given in
-    let ended = blocks.block-told 4 (afterBlock (c .before .before .before .before .before .loop .before)) (c .before .before .before .before .before .before .before .before .args .text .now) (c .before .before .before .before .before .loop .at) (c .before .before .before .before .block-at .result) (w .0 .0) (w .0 .1 .0) (w .0 .1 .1 .0) (c .before .before .before .before .block-at .ensures) (w .1) in
+    let ended = blocks.block-told 4 (afterBlock (c .before .before .before .before .before .loop .before))
+    (c .before .before .before .before .before .before .before .before .args .text .now) (c .before .before .before .before .before .loop .at)
+    (c .before .before .before .before .block-at .result) (w .0 .0) (w .0 .1 .0) (w .0 .1 .1 .0)
+    (c .before .before .before .before .block-at .ensures) (w .1) in
     (turns.whole (c .before .before .before .before .before .loop .inv .0) ended (c .pack .ensures), ended .within)
 
 enum-told : tie.Need-enum-told Inv-loop μ-loop Inv-loop2 μ-loop2

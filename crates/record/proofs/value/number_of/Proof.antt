@@ -21,7 +21,9 @@ number-by-requires : tie.Need-number-by-requires
 number-by-requires c κs = search needs
 
 returns : tie.Need-returns
-returns c = c .number-by .ensures ∙ values.number-same (c .before .before .before .before .octet .ensures) (c .before .before .before .octet2 .ensures) (c .before .before .octet3 .ensures) (c .before .octet4 .ensures)
+returns c =
+    c .number-by .ensures ∙ values.number-same (c .before .before .before .before .octet .ensures) (c .before .before .before .octet2 .ensures)
+    (c .before .before .octet3 .ensures) (c .before .octet4 .ensures)
 
 pub number-of-spec : {M : Type 1} → statement M
 number-of-spec =
