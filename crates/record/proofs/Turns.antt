@@ -1,5 +1,5 @@
--- The loop of `read_text`: what was found, what stands in the table, and what is still to come of the text.
-use Prim.Native.Nat.{ℕ, suc, _+_, _-_, _<_, _≤_}
+-- The loops of `read_text`: what was found, what stands in the table, and what is still to come of the text.
+use Prim.Native.Nat.{ℕ, suc, _+_, _-_, _*_, _<_, _≤_}
 use mathlib.Core.Path.{_≡_, refl, sym, ap, _∙_}
 use mathlib.Core.List.{List, [], _∷_, _++_, append-nil}
 use mathlib.Core.Bool.{true, false}
@@ -15,6 +15,7 @@ use Rattle.record.specs.declared.line.Step.the-variants.{Goes, Ends, Sto
 use Rattle.record.specs.Record.{packed}
 use Rattle.record.specs.Line.{afterBlock, lineAt}
 use Rattle.record.specs.Text.{mostOctets, Entry, Reading, refused, taken, before, betweenBlocks, atEnd, onwards, walk, reading, filled, tableOf}
+use Rattle.record.specs.Block.{Ended}
 use Rattle.record.proofs.Values as values
 use Rattle.record.proofs.Steps as steps
 
@@ -65,6 +66,48 @@ begins s st fits is =
       within = omega arith;
       counted = omega arith;
       reads = walked s fits ∙ sym (rw is (behind-none (walk (mostOctets + 1) (afterBlock 0) 0 s)));
+    }
+
+-- a state by another name
+pub renamed :
+    {s places : List ℕ} {st : State} (next : State) {at done blocks : ℕ}
+    → Going s places st at done blocks
+    → next ≡ st
+    → Going s places next at done blocks
+renamed {s} {places} {st} next {at} {done} {blocks} going is = rw is going
+
+-- the loop of blocks: four lines that were read in one go
+pub whole :
+    {s places : List ℕ} {last at blocks cid : ℕ} {made : Record} {end number : ℕ}
+    → Going s places (afterBlock last) at (blocks * 4) blocks
+    → Ended 4 (afterBlock last) s at cid made end
+    → number ≡ packed made
+    → Going s (set places cid number) (afterBlock cid) end ((blocks + 1) * 4) (blocks + 1)
+whole {s} {places} {last} {at} {blocks} {cid} {made} {end} {number} going ended packs =
+    let past : at + 4 ≤ end = ended .past in
+    let inside : end ≤ length s = ended .within in
+    let passed : blocks * 4 ≤ at = going .lines in
+    let entry : Entry = record { cid = cid; made = made } in
+    let room : ℕ = mostOctets + 1 - (blocks + 1) * 4 in
+    let enough : mostOctets + 1 - blocks * 4 ≡ room + 4 = omega (arith, going .fits) in
+    let count : blocks * 4 + 4 ≡ (blocks + 1) * 4 = omega arith in
+    let walks : walk (mostOctets + 1 - blocks * 4) (afterBlock last) (blocks * 4) (drop at s)
+    ≡ before entry (walk room (afterBlock cid) ((blocks + 1) * 4) (drop end s)) =
+    ap (λ (n : ℕ). walk n (afterBlock last) (blocks * 4) (drop at s)) enough
+    ∙ ended .walks room (blocks * 4)
+    ∙ ap (λ (n : ℕ). before entry (walk room (afterBlock cid) n (drop end s))) count in
+    record {
+      found = going .found ++ entry ∷ [];
+      many = length-append (going .found) (entry ∷ []) ∙ ap (λ (n : ℕ). n + 1) (going .many);
+      stands = rw (going .stands, packs) (sym (filled-more (replicate 256 0) (going .found) entry));
+      fits = going .fits;
+      lines = omega arith;
+      within = omega arith;
+      counted = omega arith;
+      reads =
+          going .reads
+          ∙ ap (behind (going .found)) walks
+          ∙ behind-more (going .found) entry (walk room (afterBlock cid) ((blocks + 1) * 4) (drop end s));
     }
 
 module _ {s places : List ℕ} {st : State} {at done blocks : ℕ} (going : Going s places st at done blocks) where

@@ -55,6 +55,10 @@ module _ (s : List ℕ) (i : ℕ) where
     unfolding hasLf
     passed h = rw (drop-cons s i 0 there, add-one i) (simp (ne-eqb (getD s i 0) 10 h))
 
+-- a number is told by its octets
+pub number-same : {p q r t p' q' r' t' : ℕ} → p ≡ p' → q ≡ q' → r ≡ r' → t ≡ t' → numberBy p q r t ≡ numberBy p' q' r' t'
+number-same ep eq er et = cc
+
 -- a number, by its octets p, q, r, t and their digits a, b, d
 module _ (s : List ℕ) {p a : ℕ} (ep : p ≡ getD s 0 0) (ea : a ≡ digitOf p) where
   first : digitOf (getD s 0 0) ≡ a
@@ -104,7 +108,7 @@ module _ (s : List ℕ) {p a : ℕ} (ep : p ≡ getD s 0 0) (ea : a ≡ digitOf 
               pub no-end : (t ≡ 10 → ⊥) → Malformed ≡ numberOf s
               no-end h = sym (on ∙ simp (le-ltb 9 d digit3, ← et, ne-eqb t 10 h))
 
-both : (t u : Bool) → cond t u false ≡ true → (t ≡ true) × (u ≡ true)
+pub both : (t u : Bool) → cond t u false ≡ true → (t ≡ true) × (u ≡ true)
 both true u e = (refl, e)
 both false u e = absurd (true-not-false (sym e))
 

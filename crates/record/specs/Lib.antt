@@ -3,4 +3,5 @@ pub mod Value
 pub mod Back
 pub mod Line
 pub mod Text
+pub mod Block
 pub mod Claims

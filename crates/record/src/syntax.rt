@@ -1,5 +1,6 @@
 // A provisioned syntax with its m and seq, and which of them are listed (document 01, "Provisioning text").
 ghost use mathlib.Core.Path.{_≡_};
+ghost use mathlib.Core.Bool.{true, false};
 ghost use Rattle.record.specs.Record.{mostM, seqListed, place, syntaxAt};
 
 pub enum Syntax {
@@ -33,19 +34,44 @@ pub fn most_m(syntax: Syntax) -> u8
     }
 }
 
+// Whether a syntax may have seq 1.
+fn one_listed(syntax: Syntax) -> bool
+    ensures { λ r. ⌜ r ≡ seqListed syntax true ⌝ }
+{
+    match syntax {
+        Syntax::Acelp => true,
+        Syntax::Pcm => true,
+        Syntax::G727 => true,
+        Syntax::G728 => true,
+        Syntax::G7231 => true,
+        Syntax::Data => false,
+        Syntax::Fax => false,
+    }
+}
+
+// Whether a syntax may have seq 0.
+fn zero_listed(syntax: Syntax) -> bool
+    ensures { λ r. ⌜ r ≡ seqListed syntax false ⌝ }
+{
+    match syntax {
+        Syntax::Acelp => true,
+        Syntax::Pcm => false,
+        Syntax::G727 => false,
+        Syntax::G728 => true,
+        Syntax::G7231 => true,
+        Syntax::Data => true,
+        Syntax::Fax => true,
+    }
+}
+
 // Whether a syntax may have this seq.
 pub fn seq_listed(syntax: Syntax, seq: bool) -> bool
     ensures { λ r. ⌜ r ≡ seqListed syntax seq ⌝ }
 {
-    match syntax {
-        Syntax::Acelp => true,
-        Syntax::Pcm => seq,
-        Syntax::G727 => seq,
-        Syntax::G728 => true,
-        Syntax::G7231 => true,
-        Syntax::Data => !seq,
-        Syntax::Fax => !seq,
+    if seq {
+        return one_listed(syntax);
     }
+    zero_listed(syntax)
 }
 
 // The place of a syntax in document 01's list, from 1.

@@ -1,4 +1,5 @@
 // Reading a provisioning text into the table (document 01, "Provisioning text").
+use crate::block::Block;
 use crate::line::Kind;
 use crate::line::Step;
 ghost use mathlib.Core.Path.{_≡_};
@@ -37,10 +38,26 @@ pub fn read_text(text: &[u8], table: &mut [u16; 256]) -> TextAnswer
         };
     }
     let mut places = [0u16; 256];
-    let mut state = crate::line::fresh(0);
+    let mut before: u8 = 0;
     let mut at: usize = 0;
-    let mut done: usize = 0;
     let mut blocks: usize = 0;
+    // Blocks in one go, up to the first of which nothing is told so; from there on line by line.
+    loop {
+        match crate::block::block_at(text, at, before) {
+            Block::Complete { cid, made, end } => {
+                places[cid as usize] = crate::table::pack(made);
+                before = cid;
+                at = end;
+                blocks += 1;
+                continue;
+            }
+            Block::Untold => {
+                break;
+            }
+        }
+    }
+    let mut state = crate::line::fresh(before);
+    let mut done: usize = blocks * 4;
     while at < text.len() {
         match crate::line::line_at(&text[at..], state) {
             Step::Goes { state: next, size } => {

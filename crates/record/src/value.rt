@@ -1,7 +1,7 @@
 // The values of the lines of a provisioning text: a number or a syntax word, each ended by LF (document 01, "Provisioning text").
 use crate::syntax::Syntax;
 ghost use mathlib.Core.Path.{_≡_};
-ghost use Rattle.record.specs.Value.{starts, hasLf, digitOf, numberOf, numberLine, wordOf};
+ghost use Rattle.record.specs.Value.{starts, hasLf, digitOf, numberBy, numberOf, numberLine, wordOf};
 
 const LF: u8 = 10;
 
@@ -64,15 +64,14 @@ fn digit_of(octet: u8) -> u16
     (octet - 48) as u16
 }
 
-// The number that a text starts with: one to three digits, no leading zero, then LF.
-fn number_of(s: &[u8]) -> Number
-    ensures { λ r. ⌜ r ≡ numberOf (now (s .entry)) ⌝ }
+// The number that four octets start with: one to three digits, no leading zero, then LF.
+pub(crate) fn number_by(first: u8, second: u8, third: u8, fourth: u8) -> Number
+    ensures { λ r. ⌜ r ≡ numberBy first second third fourth ⌝ }
 {
-    let a = digit_of(octets::octet(s, 0));
+    let a = digit_of(first);
     if 9 < a {
         return Number::Malformed;
     }
-    let second = octets::octet(s, 1);
     if second == LF {
         return Number::Whole { value: a, size: 2 };
     }
@@ -84,7 +83,6 @@ fn number_of(s: &[u8]) -> Number
         return Number::Malformed;
     }
     let ab = a * 10 + b;
-    let third = octets::octet(s, 2);
     if third == LF {
         return Number::Whole { value: ab, size: 3 };
     }
@@ -92,13 +90,25 @@ fn number_of(s: &[u8]) -> Number
     if 9 < c {
         return Number::Malformed;
     }
-    if octets::octet(s, 3) == LF {
+    if fourth == LF {
         return Number::Whole {
             value: ab * 10 + c,
             size: 4,
         };
     }
     Number::Malformed
+}
+
+// The number that a text starts with.
+fn number_of(s: &[u8]) -> Number
+    ensures { λ r. ⌜ r ≡ numberOf (now (s .entry)) ⌝ }
+{
+    number_by(
+        octets::octet(s, 0),
+        octets::octet(s, 1),
+        octets::octet(s, 2),
+        octets::octet(s, 3),
+    )
 }
 
 // A key, then a number.
