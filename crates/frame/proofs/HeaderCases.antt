@@ -58,6 +58,15 @@ module _ (at o a b n : ℕ) where
                 → told at o a b n ≡ Sub (record { cid = cidOf o a; ptype = payloadType a; start = at + size o; len = b; last = false })
             another h = on ∙ simp (le-ltb (n - size o) b within, ne-eqb (n - size o) b h)
 
+          -- the same by the tests of the code
+          pub goes-on :
+              b < n - size o
+              → told at o a b n ≡ Sub (record { cid = cidOf o a; ptype = payloadType a; start = at + size o; len = b; last = false })
+          goes-on h = another (omega arith) (λ z. omega (arith, z))
+
+          pub ends-there : n - size o ≤ b → b ≤ n - size o → told at o a b n ≡ Bad lastWithLength
+          ends-there h g = ends g (omega arith)
+
 module _ (s : List ℕ) (at : ℕ) where
   pub nothing : length s ≤ at → headerAt s at ≡ Past
   unfolding headerAt

@@ -1,3 +1,4 @@
 pub mod Header
 pub mod Opening
 pub mod Joining
+pub mod Checking

@@ -57,17 +57,17 @@ pub fn header_at(frame: &[u8], at: usize) -> Header
             last: true,
         });
     }
+    if octet1b < rest {
+        return Header::Sub(SubFrame {
+            cid,
+            ptype,
+            start,
+            len: octet1b,
+            last: false,
+        });
+    }
     if rest < octet1b {
         return Header::Bad(refusal::LENGTH_PAST_FIELD);
     }
-    if rest == octet1b {
-        return Header::Bad(refusal::LAST_WITH_LENGTH);
-    }
-    Header::Sub(SubFrame {
-        cid,
-        ptype,
-        start,
-        len: octet1b,
-        last: false,
-    })
+    Header::Bad(refusal::LAST_WITH_LENGTH)
 }

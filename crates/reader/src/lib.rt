@@ -36,7 +36,7 @@ pub struct Reader<'a> {
 fn start(frame: &[u8]) -> Place
     ensures { λ r. ⌜ r ≡ startOf (now (frame .entry)) ⌝ }
 {
-    let checked = frame::opening::open(frame);
+    let checked = frame::opening::check(frame);
     let number = checked.number;
     if number == refusal::SOUND {
         return Place {

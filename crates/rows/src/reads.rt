@@ -8,6 +8,7 @@ use digits::layout::DigitsRead;
 use fax::Command;
 use fax::FaxRead;
 use fax::Stamp;
+use frame::header::Header;
 use frame::header::SubFrame;
 use payload::layout::Layout;
 use record::syntax::Record;
@@ -20,7 +21,7 @@ const CARD: u8 = 5;
 
 // The frame check.
 pub fn check(acc: u64, frame: &[u8]) -> u64 {
-    octet(acc, frame::opening::open(frame).number)
+    octet(acc, frame::opening::check(frame).number)
 }
 
 // What the voice card is handed: the source, the octets, the first of them.
@@ -41,20 +42,28 @@ fn handed(acc: u64, octets: &[u8]) -> u64 {
 
 // A frame opened, and every payload read.
 pub fn read(acc: u64, frame: &[u8], table: &[u16; 256]) -> u64 {
-    let opened = frame::opening::open(frame);
-    if opened.number != 0 {
-        return fold(octet(acc, opened.number), opened.at as u64);
+    let checked = frame::opening::check(frame);
+    let number = checked.number;
+    if number != 0 {
+        return fold(octet(acc, number), checked.at as u64);
     }
-    let subs = opened.subs;
     let mut folded = acc;
-    let mut i: usize = 0;
-    while i < 64 {
-        if opened.count <= i {
-            return folded;
+    let mut at: usize = 0;
+    let mut left = checked.count;
+    while 0 < left {
+        left -= 1;
+        match frame::header::header_at(frame, at) {
+            Header::Sub(sub) => {
+                folded = read_sub(folded, frame, table, sub);
+                at = sub.start + sub.len;
+            }
+            Header::Bad(number) => {
+                return octet(folded, number);
+            }
+            Header::Past => {
+                return folded;
+            }
         }
-        let sub = subs[i];
-        folded = read_sub(folded, frame, table, sub);
-        i += 1;
     }
     folded
 }

@@ -8,6 +8,8 @@ use Rattle.frame.proofs.joining.header_size.Kinds as joining-header-size-kinds
 use Rattle.frame.proofs.joining.header_size.Reads as joining-header-size-reads
 use Rattle.frame.proofs.joining.put_header.Kinds as joining-put-header-kinds
 use Rattle.frame.proofs.joining.put_header.Reads as joining-put-header-reads
+use Rattle.frame.proofs.opening.check.Kinds as opening-check-kinds
+use Rattle.frame.proofs.opening.check.Reads as opening-check-reads
 use Rattle.frame.proofs.opening.open.Kinds as opening-open-kinds
 use Rattle.frame.proofs.opening.open.Reads as opening-open-reads
 
@@ -19,6 +21,13 @@ joining-header-size κs a x y s t p q = (p ∙ sym q, refl)
 
 pub joining-put-header : OneAnswer 1 joining-put-header-kinds.ps joining-put-header-kinds.r (λ κs s. now (s .0)) joining-put-header-reads.Post
 joining-put-header κs a x y s t p q = (p .0 ∙ sym (q .0), cc)
+
+pub opening-check : OneAnswer 1 opening-check-kinds.ps opening-check-kinds.r nothing opening-check-reads.Post
+opening-check κs a x y s t p q =
+    let number = p .0 ∙ sym (q .0) in
+    let at = p .1 .0 ∙ sym (q .1 .0) in
+    let count = p .1 .1 ∙ sym (q .1 .1) in
+    (cc, refl)
 
 pub opening-open : OneAnswer 1 opening-open-kinds.ps opening-open-kinds.r nothing opening-open-reads.Post
 opening-open κs a x y s t p q = (p ∙ sym q, refl)

@@ -1,15 +1,13 @@
--- `cabinet::cendraviu_frame_check` meets its contract: it hands on the number of what `open` answers.
-use mathlib.Core.Path.{ap}
+-- `cabinet::cendraviu_frame_check` meets its contract: it hands on the number of what `check` answers.
 use borrow.Author.Needs.{needs}
-use Rattle.frame.specs.declared.opening.Opened.{Opened}
 use Rattle.cabinet.proofs.cendraviu_frame_check.Statement.{statement}
 use Rattle.cabinet.proofs.cendraviu_frame_check.Tie as tie
 
-open-requires : tie.Need-open-requires
-open-requires c κs = search needs
+check-requires : tie.Need-check-requires
+check-requires c κs = search needs
 
 returns : tie.Need-returns
-returns c = ap (λ (o : Opened). o .number) (c .open .ensures)
+returns c = c .check .ensures .0
 
 pub cendraviu-frame-check-spec : {M : Type 1} → statement M
-cendraviu-frame-check-spec = tie.close (tie.spec open-requires returns)
+cendraviu-frame-check-spec = tie.close (tie.spec check-requires returns)

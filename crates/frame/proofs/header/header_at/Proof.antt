@@ -105,19 +105,19 @@ returns-6 : tie.Need-returns-6
 returns-6 c =
     sym
     (read (c .before .before .before .before .before)
-    ∙ cases.past _ _ _ _ _ (c .before .before .before .before .before .before .before .if2 .left) (c .before .before .before .if3 .left) (c .before .before .if4 .left) (c .before .if5 .left) (c .if6 .taken))
+    ∙ cases.goes-on _ _ _ _ _ (c .before .before .before .before .before .before .before .if2 .left) (c .before .before .before .if3 .left) (c .before .before .if4 .left) (c .before .if5 .left) (c .if6 .taken))
 
 returns-7 : tie.Need-returns-7
 returns-7 c =
     sym
     (read (c .before .before .before .before .before .before)
-    ∙ cases.ends _ _ _ _ _ (c .before .before .before .before .before .before .before .before .if2 .left) (c .before .before .before .before .if3 .left) (c .before .before .before .if4 .left) (c .before .before .if5 .left) (c .before .if6 .left) (c .if7 .taken))
+    ∙ cases.past _ _ _ _ _ (c .before .before .before .before .before .before .before .before .if2 .left) (c .before .before .before .before .if3 .left) (c .before .before .before .if4 .left) (c .before .before .if5 .left) (c .if7 .taken))
 
 returns-8 : tie.Need-returns-8
 returns-8 c =
     sym
     (read (c .before .before .before .before .before .before)
-    ∙ cases.another _ _ _ _ _ (c .before .before .before .before .before .before .before .before .if2 .left) (c .before .before .before .before .if3 .left) (c .before .before .before .if4 .left) (c .before .before .if5 .left) (c .before .if6 .left) (c .if7 .left))
+    ∙ cases.ends-there _ _ _ _ _ (c .before .before .before .before .before .before .before .before .if2 .left) (c .before .before .before .before .if3 .left) (c .before .before .before .if4 .left) (c .before .before .if5 .left) (c .before .if6 .left) (c .if7 .left))
 
 pub header-at-spec : {M : Type 1} → statement M
 header-at-spec =
