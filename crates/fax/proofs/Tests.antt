@@ -1,27 +1,102 @@
 -- The tests of specs/Fax.antt on numbers, in each of their cases.
 use Prim.Native.Nat.{ℕ, _+_, _*_, _/_, _%_, _<_, _≤_}
-use mathlib.Core.Path.{_≡_}
-use mathlib.Core.List.{List, [], _∷_}
+use mathlib.Core.Path.{_≡_, refl, sym, ap, _∙_}
 use mathlib.Core.Bool.{true, false}
 use mathlib.Core.Logic.{_⊎_, inl, inr, ⊎-elim}
 use borrow.Author.Tests.{lt-ltb, le-ltb, eq-eqb, ne-eqb}
 use lib.Dec.{eqb}
-use types.Run.{OneOf}
-use Rattle.octets.proofs.Order.{eq-or-ne}
+use native.Mathlib.Omega.{arith}
+use Rattle.octets.proofs.Order.{eq-or-ne, clash}
 use Rattle.fax.specs.declared.Stamp.the-variants.{NoStamp, Stamped}
+use Rattle.fax.specs.declared.Command.{Command}
 use Rattle.fax.specs.declared.Command.the-variants.{Off, On, Page, EndOfFrame, Abort}
-use Rattle.fax.specs.Fax.{isOne, toneRefused, stampIn, ei2In, commandIn, spareIn}
+use Rattle.fax.specs.Fax.{isPage, bodySized, isData, tailSize, toneRefused, stampIn, ei2In, commandIn, spareIn}
 
--- a number is one of a list, as the code's match says it
-pub among : (n k : ℕ) (ks : List ℕ) → OneOf (k ∷ ks) n → isOne n (k ∷ ks) ≡ true
-among n k [] e = simp (eq-eqb n k e)
-among n k (k′ ∷ ks) (inl e) = simp (eq-eqb n k e)
-among n k (k′ ∷ ks) (inr r) =
-    ⊎-elim (λ e. simp (eq-eqb n k e)) (λ ne. simp (ne-eqb n k ne) (among n k′ ks r)) (eq-or-ne n k)
+-- a number of twelves that is not so many is one more at least
+twelves : (n k : ℕ) → n % 12 ≡ 0 → k * 12 ≤ n → (n ≡ k * 12 → ⊥) → (k + 1) * 12 ≤ n
+twelves n k h least ne = omega arith
 
-pub none : (n k : ℕ) (ks : List ℕ) → (OneOf (k ∷ ks) n → ⊥) → isOne n (k ∷ ks) ≡ false
-none n k [] h = simp (ne-eqb n k h)
-none n k (k′ ∷ ks) h = simp (ne-eqb n k (λ e. h (inl e))) (none n k′ ks (λ r. h (inr r)))
+just : (n : ℕ) → 6 * 12 ≤ n → n ≤ 72 → n ≡ 72
+just n least most = omega arith
+
+-- how many octets a page of data has
+module _ (n : ℕ) where
+  pub three : n ≡ 3 → isPage n ≡ true
+  unfolding isPage
+  three e = simp (eq-eqb n 3 e)
+
+  pub no-octet : n ≡ 0 → isPage n ≡ false
+  unfolding isPage
+  no-octet e = ap isPage e
+
+  ne-page : (n ≡ 3 → ⊥)
+      → (n ≡ 12 → ⊥)
+      → (n ≡ 24 → ⊥)
+      → (n ≡ 36 → ⊥)
+      → (n ≡ 48 → ⊥)
+      → (n ≡ 60 → ⊥)
+      → (n ≡ 72 → ⊥)
+      → isPage n ≡ false
+  unfolding isPage
+  ne-page a b c d e f g =
+      simp (ne-eqb n 3 a, ne-eqb n 12 b, ne-eqb n 24 c, ne-eqb n 36 d, ne-eqb n 48 e, ne-eqb n 60 f, ne-eqb n 72 g)
+
+  pub past : 72 < n → isPage n ≡ false
+  past h =
+      ne-page (λ e. omega (arith, e, h)) (λ e. omega (arith, e, h)) (λ e. omega (arith, e, h)) (λ e. omega (arith, e, h)) (λ e. omega (arith, e, h)) (λ e. omega (arith, e, h)) (λ e. omega (arith, e, h))
+
+  module _ (not-three : n ≡ 3 → ⊥) (some : n ≡ 0 → ⊥) (most : n ≤ 72) where
+    not-twelves : (n % 12 ≡ 0 → ⊥) → isPage n ≡ false
+    not-twelves h =
+        ne-page not-three (λ e. h (omega (arith, e))) (λ e. h (omega (arith, e))) (λ e. h (omega (arith, e))) (λ e. h (omega (arith, e))) (λ e. h (omega (arith, e))) (λ e. h (omega (arith, e)))
+
+    -- the first of the six that it is
+    one-of-six : n % 12 ≡ 0 → isPage n ≡ true
+    unfolding isPage
+    one-of-six h =
+        ⊎-elim (λ e. simp (ne-eqb n 3 not-three, eq-eqb n 12 e))
+        (λ a.
+        ⊎-elim (λ e. simp (ne-eqb n 3 not-three, ne-eqb n 12 a, eq-eqb n 24 e))
+        (λ b.
+        ⊎-elim (λ e. simp (ne-eqb n 3 not-three, ne-eqb n 12 a, ne-eqb n 24 b, eq-eqb n 36 e))
+        (λ c.
+        ⊎-elim (λ e. simp (ne-eqb n 3 not-three, ne-eqb n 12 a, ne-eqb n 24 b, ne-eqb n 36 c, eq-eqb n 48 e))
+        (λ d.
+        ⊎-elim (λ e. simp (ne-eqb n 3 not-three, ne-eqb n 12 a, ne-eqb n 24 b, ne-eqb n 36 c, ne-eqb n 48 d, eq-eqb n 60 e))
+        (λ f.
+        let from-one = twelves n 0 h (omega arith) some in
+        let from-two = twelves n 1 h from-one a in
+        let from-three = twelves n 2 h from-two b in
+        let from-four = twelves n 3 h from-three c in
+        let from-five = twelves n 4 h from-four d in
+        let last : n ≡ 72 = just n (twelves n 5 h from-five f) most in
+        simp (ne-eqb n 3 not-three, ne-eqb n 12 a, ne-eqb n 24 b, ne-eqb n 36 c, ne-eqb n 48 d, ne-eqb n 60 f, eq-eqb n 72 last))
+        (eq-or-ne n 60))
+        (eq-or-ne n 48))
+        (eq-or-ne n 36))
+        (eq-or-ne n 24))
+        (eq-or-ne n 12)
+
+    pub by-twelves : eqb (n % 12) 0 ≡ isPage n
+    by-twelves =
+        ⊎-elim (λ e. eq-eqb (n % 12) 0 e ∙ sym (one-of-six e)) (λ ne. ne-eqb (n % 12) 0 ne ∙ sym (not-twelves ne)) (eq-or-ne (n % 12) 0)
+
+-- the octets of a command, by whether it is data
+pub data-sized : (k : Command) (n : ℕ) → isData k ≡ true → bodySized k n ≡ isPage n
+unfolding bodySized
+data-sized Off n e = clash false e refl
+data-sized (On h m f) n e = clash false e refl
+data-sized Page n e = refl
+data-sized EndOfFrame n e = clash false e refl
+data-sized Abort n e = clash false e refl
+
+pub other-sized : (k : Command) (n : ℕ) → isData k ≡ false → bodySized k n ≡ eqb n (tailSize k)
+unfolding bodySized
+other-sized Off n e = refl
+other-sized (On h m f) n e = refl
+other-sized Page n e = clash true refl e
+other-sized EndOfFrame n e = refl
+other-sized Abort n e = refl
 
 module _ (modulation frequency : ℕ) where
   pub beyond : 11 < modulation → toneRefused modulation frequency ≡ true

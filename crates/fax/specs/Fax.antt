@@ -65,6 +65,21 @@ bodySized Page n = isPage n
 bodySized EndOfFrame n = eqb n 3
 bodySized Abort n = eqb n 3
 
+-- the same, by whether the command is data, and by the octets behind another one
+abbrev pub isData : Command → Bool
+isData Off = false
+isData (On hdlc modulation frequency) = false
+isData Page = true
+isData EndOfFrame = false
+isData Abort = false
+
+abbrev pub tailSize : Command → ℕ
+tailSize Off = 0
+tailSize (On hdlc modulation frequency) = 0
+tailSize Page = 0
+tailSize EndOfFrame = 3
+tailSize Abort = 3
+
 -- "modulation 0 to 11, frequency .. (0 unless modulation is 0, else 14)"
 unfoldable pub toneRefused : ℕ → ℕ → Bool
 toneRefused modulation frequency =

@@ -7,7 +7,7 @@ ghost use Prim.Native.Nat.{_+_, _<_, _≤_};
 ghost use lib.ListN.{length};
 ghost use Rattle.octets.specs.Room.{written};
 ghost use Rattle.octets.specs.Made.{fitOf, putMade, leftMade};
-ghost use Rattle.fax.specs.Fax.{needsStamp, unstamped, stampSize, commandSize, frontOf, isPage, bodySized, toneRefused, refusedOn, stampIn, ei2In, commandIn, spareIn, judged, faxRead, stampNumber, ei1For, stampOctets, commandOctets, codeOf, firstOctet, faxMade};
+ghost use Rattle.fax.specs.Fax.{needsStamp, unstamped, stampSize, commandSize, frontOf, isPage, bodySized, isData, tailSize, toneRefused, refusedOn, stampIn, ei2In, commandIn, spareIn, judged, faxRead, stampNumber, ei1For, stampOctets, commandOctets, codeOf, firstOctet, faxMade};
 
 // The largest sequence of 4 bits, the largest stamp of 15, and the last modulation of the table.
 const MOST_SEQUENCE: u8 = 15;
@@ -111,12 +111,52 @@ fn front_size(stamp: Stamp, command: Command) -> usize
     1 + stamp_size(stamp) + command_size(command)
 }
 
+// 3 octets, or 12 to 72 by twelves: each of document 01's numbers, with no table of them.
 fn is_page(octets: usize) -> bool
     ensures { λ r. ⌜ r ≡ isPage octets ⌝ }
 {
-    match octets {
-        3 | 12 | 24 | 36 | 48 | 60 | 72 => true,
-        _ => false,
+    if octets == 3 {
+        return true;
+    }
+    if octets == 0 {
+        return false;
+    }
+    if 72 < octets {
+        return false;
+    }
+    octets % 12 == 0
+}
+
+fn is_data(command: Command) -> bool
+    ensures { λ r. ⌜ r ≡ isData command ⌝ }
+{
+    match command {
+        Command::Off => false,
+        Command::On {
+            hdlc: _,
+            modulation: _,
+            frequency: _,
+        } => false,
+        Command::Page => true,
+        Command::EndOfFrame => false,
+        Command::Abort => false,
+    }
+}
+
+// The octets behind a command that is not data.
+fn tail_size(command: Command) -> usize
+    ensures { λ r. ⌜ r ≡ tailSize command ⌝ }
+{
+    match command {
+        Command::Off => 0,
+        Command::On {
+            hdlc: _,
+            modulation: _,
+            frequency: _,
+        } => 0,
+        Command::Page => 0,
+        Command::EndOfFrame => 3,
+        Command::Abort => 3,
     }
 }
 
@@ -124,17 +164,10 @@ fn is_page(octets: usize) -> bool
 fn body_fits(command: Command, octets: usize) -> bool
     ensures { λ r. ⌜ r ≡ bodySized command octets ⌝ }
 {
-    match command {
-        Command::Off => octets == 0,
-        Command::On {
-            hdlc: _,
-            modulation: _,
-            frequency: _,
-        } => octets == 0,
-        Command::Page => is_page(octets),
-        Command::EndOfFrame => octets == 3,
-        Command::Abort => octets == 3,
+    if is_data(command) {
+        return is_page(octets);
     }
+    octets == tail_size(command)
 }
 
 // A modulation that is no code of the table, or a frequency beside another modulation than the single tone, 0.

@@ -1,4 +1,5 @@
 pub mod PlaceCases
+pub mod RoomParts
 pub mod WriteCases
 pub mod WriteBack
 pub mod Examples

@@ -1,3 +1,4 @@
 pub mod Writer
 pub mod Answers
+pub mod Spot
 pub mod Examples

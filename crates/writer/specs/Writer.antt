@@ -60,15 +60,6 @@ abbrev pub entered : ℕ → Writer → Bool → ℕ → ℕ → Fit → Entered
 entered room w last cid ptype (Octets len) = placed room w last cid ptype len
 entered room w last cid ptype (Unfit number) = NoPlace number
 
--- the octets of what fits, and the lent frame with the header in its place
-abbrev pub sizeOf : Fit → ℕ
-sizeOf (Octets len) = len
-sizeOf (Unfit number) = 0
-
-abbrev pub leftEntered : Entered → List ℕ → ℕ → List ℕ → List ℕ
-leftEntered (Place start next) room at header = written room at header
-leftEntered (NoPlace number) room at header = room
-
 -- What the writer does with a sub-frame: it takes it, as these octets, and goes on; or it refuses it.
 pub data Writing : Type 0 where
   writes : List ℕ → Writer → Writing
