@@ -1,3 +1,4 @@
+pub mod JudgeCases
 pub mod LayoutCases
 pub mod LayoutBack
 pub mod SenderCases

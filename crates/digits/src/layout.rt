@@ -9,7 +9,7 @@ ghost use Prim.Native.Nat.{_+_, _≤_};
 ghost use lib.ListN.{length};
 ghost use Rattle.octets.specs.Room.{written};
 ghost use Rattle.octets.specs.Made.{made, fitOf, putMade, leftMade};
-ghost use Rattle.digits.specs.Layout.{offWindow, windowReserved, windowOut, windowOf, judged, digitsRead, windowWrong, windowOctets, levelLow, levelCode, digitsOctets, digitsMade};
+ghost use Rattle.digits.specs.Layout.{offWindow, windowOf, judged, digitsRead, windowWrong, windowOctets, levelLow, levelCode, digitsOctets, digitsMade};
 ghost use Rattle.levels.specs.Level.{codeOf};
 
 // One 20 ms period: off or on with a code, and where in it the change lies, in ms.
@@ -45,29 +45,6 @@ pub enum DigitsRead {
     BadDigits(u8),
 }
 
-// A reserved type or bit in a window's octets.
-fn window_reserved(a: u8, b: u8) -> bool
-    ensures { λ r. ⌜ r ≡ windowReserved a b ⌝ }
-{
-    if 1 < a / 32 {
-        return true;
-    }
-    0 < b / 32
-}
-
-// An edge, or the code of an on window, out of range.
-fn window_out(a: u8, b: u8) -> bool
-    ensures { λ r. ⌜ r ≡ windowOut a b ⌝ }
-{
-    if 19 < a % 32 {
-        return true;
-    }
-    if a / 32 == 1 {
-        return 15 < b % 32;
-    }
-    false
-}
-
 fn window_of(a: u8, b: u8) -> Window
     ensures { λ r. ⌜ r ≡ windowOf a b ⌝ }
 {
@@ -85,37 +62,32 @@ fn window_of(a: u8, b: u8) -> Window
     }
 }
 
-// What eight octets tell, the reserved bits and codes before the values.
+// What eight octets tell, the reserved bits and codes before the values; each test is of several octets at once.
 fn judge(s: u8, l: u8, a0: u8, b0: u8, a1: u8, b1: u8, a2: u8, b2: u8) -> DigitsRead
     ensures { λ r. ⌜ r ≡ judged s l a0 b0 a1 b1 a2 b2 ⌝ }
 {
-    if 0 < l / 32 {
+    if 31 < l | b0 | b1 | b2 {
         return DigitsRead::BadDigits(refusal::RESERVED_CODE);
     }
-    if window_reserved(a0, b0) {
+    if 63 < a0 | a1 | a2 {
         return DigitsRead::BadDigits(refusal::RESERVED_CODE);
     }
-    if window_reserved(a1, b1) {
-        return DigitsRead::BadDigits(refusal::RESERVED_CODE);
-    }
-    if window_reserved(a2, b2) {
-        return DigitsRead::BadDigits(refusal::RESERVED_CODE);
-    }
-    if window_out(a0, b0) {
+    // An edge above 19 is above 31 with 12 more.
+    if 31 < (a0 % 32 + 12) | (a1 % 32 + 12) | (a2 % 32 + 12) {
         return DigitsRead::BadDigits(refusal::VALUE_OUT_OF_RANGE);
     }
-    if window_out(a1, b1) {
-        return DigitsRead::BadDigits(refusal::VALUE_OUT_OF_RANGE);
-    }
-    if window_out(a2, b2) {
+    let current = window_of(a0, b0);
+    let recent = window_of(a1, b1);
+    let previous = window_of(a2, b2);
+    if 15 < current.code | recent.code | previous.code {
         return DigitsRead::BadDigits(refusal::VALUE_OUT_OF_RANGE);
     }
     DigitsRead::Dialled(Digits {
         sequence: DigitCount(s),
         level: levels::level_of(l),
-        current: window_of(a0, b0),
-        recent: window_of(a1, b1),
-        previous: window_of(a2, b2),
+        current: current,
+        recent: recent,
+        previous: previous,
     })
 }
 

@@ -1,5 +1,6 @@
 pub mod Halves
 pub mod Samples
+pub mod Words
 pub mod Windows
 pub mod LayoutCases
 pub mod LayoutBack

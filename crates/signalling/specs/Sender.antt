@@ -1,5 +1,5 @@
 -- Sending signalling (document 01, "Senders, per 20 ms"): "ten samples and the alarm bit; a start value is given."
-use Prim.Native.Nat.{ℕ, zero, suc, _+_, _≤_}
+use Prim.Native.Nat.{ℕ, zero, suc, _+_, _*_, _≤_}
 use mathlib.Core.Path.{_≡_}
 use mathlib.Core.List.{List, _++_}
 use mathlib.Core.Bool.{Bool, true, false, cond}
@@ -23,6 +23,12 @@ senderFrom value = record { last = record { 0 = 127 }; before = value; quiet = 0
 
 abbrev pub started : ℕ → Started
 started value = cond (allowed value) (record { number = sound; sender = senderFrom value }) (record { number = valueOutOfRange; sender = senderFrom 0 })
+
+-- the first eight samples as one number, the first lowest
+abbrev pub eight : List ℕ → ℕ
+eight s =
+    getD s 0 0 + 256
+    * (getD s 1 0 + 256 * (getD s 2 0 + 256 * (getD s 3 0 + 256 * (getD s 4 0 + 256 * (getD s 5 0 + 256 * (getD s 6 0 + 256 * getD s 7 0))))))
 
 -- every sample of n, from place i on, equals a sample
 unfoldable pub allEqual : ℕ → ℕ → ℕ → List ℕ → Bool

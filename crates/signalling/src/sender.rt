@@ -2,7 +2,9 @@
 use crate::layout::Signalling;
 use counts::SignallingCount;
 ghost use mathlib.Core.Path.{_≡_};
-ghost use Rattle.signalling.specs.Sender.{started, allEqual, decision, runAfter, windowsAfter, decisionOf, goingOut, nothingDue, period, sent};
+ghost use Prim.Native.Nat.{_<_};
+ghost use Rattle.signalling.specs.Layout.{allAllowed};
+ghost use Rattle.signalling.specs.Sender.{started, eight, allEqual, decision, runAfter, windowsAfter, decisionOf, goingOut, nothingDue, period, sent};
 
 // What a period brings: the alarm bit and ten samples, oldest first.
 pub struct Entry {
@@ -68,18 +70,44 @@ pub fn start(value: u8) -> Started
     }
 }
 
+fn wide(octet: u8) -> u64
+    ensures { λ r. ⌜ (r ≡ octet) × (r < 256) ⌝ }
+{
+    octet as u64
+}
+
+// The first eight samples as one number, the first lowest.
+fn first_eight(samples: [u8; 10]) -> u64
+    ensures { λ r. ⌜ r ≡ eight samples ⌝ }
+{
+    wide(samples[0])
+        + wide(samples[1]) * 256
+        + wide(samples[2]) * 65536
+        + wide(samples[3]) * 16777216
+        + wide(samples[4]) * 4294967296
+        + wide(samples[5]) * 1099511627776
+        + wide(samples[6]) * 281474976710656
+        + wide(samples[7]) * 72057594037927936
+}
+
+// Whether all ten samples are allowed: none has a bit of the high half.
+fn ten_allowed(samples: [u8; 10]) -> bool
+    ensures { λ r. ⌜ r ≡ allAllowed 10 0 samples ⌝ }
+{
+    if first_eight(samples) & 17361641481138401520 == 0 {
+        return samples[8] | samples[9] < 16;
+    }
+    false
+}
+
 // Whether all ten samples equal one.
 fn all_equal(sample: u8, samples: [u8; 10]) -> bool
     ensures { λ r. ⌜ r ≡ allEqual sample 10 0 samples ⌝ }
 {
-    let mut i: usize = 0;
-    while i < 10 {
-        if sample != samples[i] {
-            return false;
-        }
-        i += 1;
+    if first_eight(samples) == wide(sample) * 72340172838076673 {
+        return wide(samples[8]) + wide(samples[9]) * 256 == wide(sample) * 257;
     }
-    true
+    false
 }
 
 // What is done with a period, by whether it is quiet and the quiet periods of the run before it.
@@ -190,7 +218,7 @@ pub fn send(sender: Sender, entry: Entry) -> Sent
     ensures { λ r. ⌜ r ≡ sent sender entry ⌝ }
 {
     let samples = entry.samples;
-    if crate::layout::all_allowed(&samples) {
+    if ten_allowed(samples) {
         return take_period(sender, entry);
     }
     nothing_due(refusal::VALUE_OUT_OF_RANGE, sender)
