@@ -1,5 +1,6 @@
 pub mod Spelling
 pub mod Appending
+pub mod HexTable
 pub mod Decoding
 pub mod LineCases
 pub mod Ends
