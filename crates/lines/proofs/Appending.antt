@@ -1,17 +1,16 @@
--- Texts put one behind the other, and a field.
-use Prim.Native.Nat.{ℕ, _+_, _-_, _≤_}
-use mathlib.Core.Path.{_≡_, sym, ap, subst, _∙_}
-use mathlib.Core.List.{List, [], _∷_, _++_}
+-- Texts put one behind the other, octet by octet, and a field.
+use Prim.Native.Nat.{ℕ, _+_, _<_, _≤_}
+use mathlib.Core.Path.{_≡_, refl, sym, ap, subst, _∙_}
+use mathlib.Core.List.{List, [], _∷_, _++_, append-assoc}
 use native.Mathlib.Omega.{arith}
-use lib.ListN.{length, take, drop, length-append, length-drop}
-use lib.Seq.{take-all}
-use Rattle.octets.specs.declared.Put.{Put}
-use Rattle.octets.specs.declared.Put.the-variants.{Written, NotWritten}
-use Rattle.octets.specs.Room.{put, written, leftBy}
+use native.Mathlib.Numerals.{add-one}
+use lib.ListN.{length, getD, set, take, length-append}
+use lib.Seq.{take-suc, take-all}
+use Rattle.octets.specs.Room.{written}
 use Rattle.octets.proofs.Writes as writes
 use Rattle.lines.specs.Decimal.{decimal}
 use Rattle.lines.specs.Field.{field, Appended}
-use Rattle.lines.proofs.Spelling as spelling
+use Rattle.lines.proofs.Keeping as keeping
 
 module _ {before mid text : List ℕ} {at most next : ℕ} (first : Appended before at text most mid next) where
   pub same-length : at + most ≤ length before → length mid ≡ length before
@@ -19,6 +18,9 @@ module _ {before mid text : List ℕ} {at most next : ℕ} (first : Appended bef
 
   pub within : (more : ℕ) → most ≤ more → Appended before at text more mid next
   within more h = record { ends = first .ends; holds = first .holds; size = omega (arith, first .size) }
+
+  pub tighter : (less : ℕ) → length text ≤ less → Appended before at text less mid next
+  tighter less h = record { ends = first .ends; holds = first .holds; size = h }
 
   pub reads : {other : List ℕ} → text ≡ other → Appended before at other most mid next
   reads e = subst (λ (t : List ℕ). Appended before at t most mid next) e first
@@ -37,39 +39,40 @@ module _ {before mid text : List ℕ} {at most next : ℕ} (first : Appended bef
         size = omega (arith, first .size, second .size);
       }
 
--- the digits with LF, as a part of the text that holds them at its end
-pub spelt :
-    (text : List ℕ) (start n : ℕ)
-    → length text ≡ 21
-    → drop start text ≡ decimal n ++ 10 ∷ []
-    → take (21 - start) (drop start text) ≡ decimal n ++ 10 ∷ []
-spelt text start n size e = take-all (21 - start) (drop start text) (omega (arith, length-drop start text)) ∙ e
+-- nothing, and one octet
+pub none : (out : List ℕ) (at : ℕ) → Appended out at [] 0 out at
+none out at = record { ends = omega arith; holds = sym (keeping.written-none out at); size = omega arith }
 
--- a field, by what `put_both` answers for its name and its digits with LF
-module _ (out key body after : List ℕ) (n at : ℕ) (is : body ≡ decimal n ++ 10 ∷ []) (room : at + (length key + 21) ≤ length out)
-    {r : Put} (says : r ≡ put out at (key ++ body)) (holds : after ≡ leftBy r out at (key ++ body)) where
-  text : key ++ body ≡ field key n
-  unfolding field
-  text = ap (λ (l : List ℕ). key ++ l) is
+pub one : (out : List ℕ) (at octet : ℕ) → at + 1 ≤ length out → Appended out at (octet ∷ []) 1 (set out at octet) (at + 1)
+one out at octet room = record { ends = refl; holds = writes.one-stored out at octet room; size = omega arith }
 
-  size : length (field key n) ≤ length key + 21
-  unfolding field
-  size = simp length-append (omega (arith, spelling.decimal-size n))
+-- one octet more of a text
+pub more :
+    (text : List ℕ) (i octet : ℕ) {out mid after : List ℕ} {at next last : ℕ}
+    → i < length text
+    → octet ≡ getD text i 0
+    → at + length text ≤ length out
+    → Appended out at (take i text) i mid next
+    → Appended mid next (octet ∷ []) 1 after last
+    → Appended out at (take (i + 1) text) (i + 1) after last
+more text i octet there is room first second =
+    reads (then first second (omega arith)) (rw (is, add-one i) (sym (take-suc text i 0 there)))
 
-  fits : at + length (key ++ body) ≤ length out
-  fits = rw text (omega (arith, size))
+module _ (text : List ℕ) (i : ℕ) {out mid : List ℕ} {at next : ℕ} where
+  pub room-for-more : i < length text → at + length text ≤ length out → Appended out at (take i text) i mid next → next + 1 ≤ length mid
+  room-for-more there room first = omega (arith, first .ends, first .size, same-length first (omega arith))
 
-  is-written : r ≡ Written (at + length (key ++ body))
-  is-written = says ∙ sym (writes.room-for out (key ++ body) at fits)
+  pub whole : i ≤ length text → length text ≤ i → Appended out at (take i text) i mid next → Appended out at text (length text) mid next
+  whole le all first = within (reads first (take-all i text all)) (length text) (omega arith)
 
-  pub put-field : (next : ℕ) → r ≡ Written next → Appended out at (field key n) (length key + 21) after next
-  put-field next e =
-      let same : next ≡ at + length (key ++ body) = cc is-written in
-      record {
-        ends = same ∙ ap (λ (l : List ℕ). at + length l) text;
-        holds = holds ∙ ap (λ (a : Put). leftBy a out at (key ++ body)) e ∙ ap (written out at) text;
-        size = size;
-      }
-
-  pub never : {A : Type 0} (number : ℕ) → r ≡ NotWritten number → A
-  never number e = let z : _≡_ {A = ℕ} 0 1 = cc is-written in absurd (omega arith)
+-- a field: its name, its digits, LF
+pub put-field :
+    (key : List ℕ) (n : ℕ) {out first second after : List ℕ} {at past end next : ℕ}
+    → at + (length key + 21) ≤ length out
+    → Appended out at key (length key) first past
+    → Appended first past (decimal n) 20 second end
+    → Appended second end (10 ∷ []) 1 after next
+    → Appended out at (field key n) (length key + 21) after next
+unfolding field
+put-field key n room a b c =
+    within (reads (then (then a b (omega arith)) c (omega arith)) (append-assoc key (decimal n) (10 ∷ []))) (length key + 21) (omega arith)

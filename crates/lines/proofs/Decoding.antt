@@ -1,89 +1,148 @@
--- The loop of `decode`: the octets that stand, before what the rest of the characters holds.
-use Prim.Native.Nat.{ℕ, suc, _+_, _*_, _<_, _≤_}
+-- The loop of `pairs`: the octets that stand are those of the characters passed, whatever follows these.
+use Prim.Native.Nat.{ℕ, suc, _+_, _*_, _/_, _<_, _≤_, min}
 use mathlib.Core.Path.{_≡_, refl, sym, ap, _∙_}
 use mathlib.Core.List.{List, [], _∷_, _++_, append-assoc, append-nil}
+use mathlib.Core.Logic.{⊎-elim}
 use native.Mathlib.Omega.{arith}
 use native.Mathlib.Numerals.{add-one, add-two}
 use borrow.Author.Tests.{lt-ltb, le-ltb}
-use lib.ListN.{length, getD, set, take, drop, length-set, drop-of-length-le}
-use lib.Seq.{drop-cons, take-suc-set, length-take-le}
+use lib.ListN.{length, getD, set, take, drop, length-set, drop-of-length-le, take-append-drop}
+use lib.Seq.{drop-cons, take-suc, append-snoc, take-suc-set, length-take-le, take-all}
+use Rattle.octets.proofs.Order.{lt-or-le}
 use Rattle.refusal.specs.Numbers.{hexMalformed}
 use Rattle.lines.specs.declared.line.LineRead.{LineRead}
 use Rattle.lines.specs.declared.line.LineRead.the-variants.{Octets, BadLine}
-use Rattle.lines.specs.Hex.{Decoded, octets, refused, hexValue, behind, octetThen, decoded, answer, octetsOf, sizeOf}
+use Rattle.lines.specs.Hex.{Decoded, octets, refused, hexValue, behind, octetThen, decoded, Paired, answer, octetsOf, sizeOf}
+use Rattle.lines.proofs.HexTable as table
+use Rattle.lines.proofs.HexTable.{valued}
 
 -- after n octets
 pub record Going (chars frame : List ℕ) (n at : ℕ) : Type 0 where
   pub room : length frame ≡ 1600
   pub twice : at ≡ n * 2
-  pub within : at ≤ length chars
-  pub reads : decoded chars ≡ behind (take n frame) (decoded (drop at chars))
+  pub reads : (rest : List ℕ) → decoded (take at chars ++ rest) ≡ behind (take n frame) (decoded rest)
 
 pub begins : (chars frame : List ℕ) → length frame ≡ 1600 → Going chars frame 0 0
-begins chars frame room = record { room = room; twice = refl; within = omega arith; reads = none (decoded chars) }
+begins chars frame room = record { room = room; twice = refl; reads = λ rest. none (decoded rest) }
   where
     none : (d : Decoded) → d ≡ behind [] d
     none (octets s) = refl
     none (refused number) = refl
 
--- What the code promises.
-abbrev pub Promised : List ℕ → LineRead → List ℕ → Type 0
-Promised chars r frame = (r ≡ answer (decoded chars)) × (take (sizeOf r) frame ≡ octetsOf (decoded chars))
-
-pub refuses : (chars frame : List ℕ) (number : ℕ) → decoded chars ≡ refused number → Promised chars (BadLine number) frame
-refuses chars frame number e = rw e (refl, refl)
-
 behind-twice : (front : List ℕ) (v : ℕ) (d : Decoded) → behind front (behind (v ∷ []) d) ≡ behind (front ++ v ∷ []) d
 behind-twice front v (octets s) = ap octets (sym (append-assoc front (v ∷ []) s))
 behind-twice front v (refused number) = refl
 
+-- two characters, by the values that the table has for them
+module _ (c d : ℕ) (rest : List ℕ) where
+  bad-high : 15 < hexValue c → decoded (c ∷ d ∷ rest) ≡ refused hexMalformed
+  unfolding decoded octetThen
+  bad-high b = simp (lt-ltb 15 (hexValue c) b)
+
+  bad-low : hexValue c ≤ 15 → 15 < hexValue d → decoded (c ∷ d ∷ rest) ≡ refused hexMalformed
+  unfolding decoded octetThen
+  bad-low good b = simp (le-ltb 15 (hexValue c) good, lt-ltb 15 (hexValue d) b)
+
+  bad-pair : 255 < valued c * 16 + valued d → decoded (c ∷ d ∷ rest) ≡ refused hexMalformed
+  bad-pair b =
+      ⊎-elim (λ (h : 15 < hexValue c). bad-high h)
+      (λ (h : hexValue c ≤ 15).
+      ⊎-elim (λ (l : 15 < hexValue d). bad-low h l) (λ (l : hexValue d ≤ 15). absurd (omega (arith, table.is c h, table.is d l)))
+      (lt-or-le 15 (hexValue d)))
+      (lt-or-le 15 (hexValue c))
+
+  good-pair : valued c * 16 + valued d ≤ 255 → decoded (c ∷ d ∷ rest) ≡ behind ((valued c * 16 + valued d) ∷ []) (decoded rest)
+  unfolding decoded octetThen
+  good-pair g =
+      let h : hexValue c ≤ 15 = table.good c (omega arith) in
+      let l : hexValue d ≤ 15 = table.good d (omega arith) in
+      simp (le-ltb 15 (hexValue c) h, le-ltb 15 (hexValue d) l)
+
+alone : (c : ℕ) → decoded (c ∷ []) ≡ refused hexMalformed
+unfolding decoded
+alone c = refl
+
 module _ {chars frame : List ℕ} {n at : ℕ} (going : Going chars frame n at) where
-  -- an odd character
-  pub odd : at < length chars → length chars ≤ at + 1 → decoded chars ≡ refused hexMalformed
-  unfolding decoded
-  odd there alone =
-      let end : length chars ≤ suc at = omega arith in
-      let last : drop (suc at) chars ≡ [] = drop-of-length-le chars end in
-      going .reads ∙ rw (drop-cons chars at 0 there, last)
+  -- the whole half of the characters passed
+  pub all : (most : ℕ) → most ≡ min (length chars / 2) 1600 → n ≤ most → most ≤ n → Paired chars frame n
+  all most is within end =
+      record {
+        few = omega arith;
+        within = omega arith;
+        reads = λ rest. ap (λ (k : ℕ). decoded (take k chars ++ rest)) (sym (going .twice)) ∙ going .reads rest;
+        ends = λ few more.
+            let there : n * 2 < length chars = more in
+            let over : length chars ≤ suc (n * 2) = omega arith in
+            let last : drop (suc (n * 2)) chars ≡ [] = drop-of-length-le chars over in
+            ap decoded (drop-cons chars (n * 2) 0 there ∙ ap (λ (l : List ℕ). getD chars (n * 2) 0 ∷ l) last) ∙ alone (getD chars (n * 2) 0);
+      }
 
-  pub all : length chars ≤ at → n ≤ length frame → Promised chars (Octets n) frame
-  unfolding decoded
-  all end room =
-      let none : drop at chars ≡ [] = drop-of-length-le chars end in
-      let is : decoded chars ≡ octets (take n frame) = going .reads ∙ rw (none, append-nil) in
-      let size : length (take n frame) ≡ n = length-take-le n frame room in
-      rw is (ap Octets (sym size), refl)
+  module _ (most : ℕ) (is : most ≡ min (length chars / 2) 1600) (more : n < most) where
+    pub there : at + 1 < length chars
+    there = omega (arith, going .twice)
 
-  module _ (both : at + 1 < length chars) {high low : ℕ} (h : high ≡ hexValue (getD chars at 0)) (l : low ≡ hexValue (getD chars (at + 1) 0)) where
-    reads-on : decoded chars ≡ behind (take n frame) (octetThen high low (decoded (drop (at + 2) chars)))
-    unfolding decoded
-    reads-on =
-        let one : at < length chars = omega arith in
-        let two : suc at < length chars = omega arith in
-        going .reads ∙ rw (h, l, add-one at, add-two at, drop-cons chars at 0 one, drop-cons chars (suc at) 0 two)
+    module _ {high low : ℕ} (h : high ≡ valued (getD chars at 0)) (l : low ≡ valued (getD chars (at + 1) 0)) where
+      here : drop at chars ≡ getD chars at 0 ∷ getD chars (at + 1) 0 ∷ drop (at + 2) chars
+      here =
+          let one : at < length chars = omega (arith, there) in
+          let two : suc at < length chars = omega (arith, there) in
+          rw (add-one at, add-two at) (drop-cons chars at 0 one ∙ ap (λ (r : List ℕ). getD chars at 0 ∷ r) (drop-cons chars (suc at) 0 two))
 
-    pub bad-high : 15 < high → decoded chars ≡ refused hexMalformed
-    unfolding octetThen
-    bad-high b = reads-on ∙ simp (lt-ltb 15 high b)
+      pub stops : 255 < high * 16 + low → Paired chars frame n
+      stops b =
+          record {
+            few = omega arith;
+            within = omega arith;
+            reads = λ rest. ap (λ (k : ℕ). decoded (take k chars ++ rest)) (sym (going .twice)) ∙ going .reads rest;
+            ends = λ few more.
+                ap (λ (k : ℕ). decoded (drop k chars)) (sym (going .twice)) ∙ ap decoded here
+                ∙ bad-pair (getD chars at 0) (getD chars (at + 1) 0) (drop (at + 2) chars) (rw (h, l) at b);
+          }
 
-    module _ (good : high ≤ 15) where
-      pub bad-low : 15 < low → decoded chars ≡ refused hexMalformed
-      unfolding octetThen
-      bad-low b = reads-on ∙ simp (le-ltb 15 high good, lt-ltb 15 low b)
+      passed : (rest : List ℕ) → take (at + 2) chars ++ rest ≡ take at chars ++ getD chars at 0 ∷ getD chars (at + 1) 0 ∷ rest
+      passed rest =
+          let one : at < length chars = omega (arith, there) in
+          let two : suc at < length chars = omega (arith, there) in
+          rw (add-one at, add-two at)
+          (ap (λ (k : List ℕ). k ++ rest) (take-suc chars (suc at) 0 two) ∙ append-snoc (take (suc at) chars) (getD chars (suc at) 0) rest
+          ∙ ap (λ (k : List ℕ). k ++ getD chars (suc at) 0 ∷ rest) (take-suc chars at 0 one)
+          ∙ append-snoc (take at chars) (getD chars at 0) (getD chars (suc at) 0 ∷ rest))
 
-      pub turn : low ≤ 15 → n < length frame → Going chars (set frame n (high * 16 + low)) (n + 1) (at + 2)
-      unfolding octetThen
-      turn fine room =
-          let sound : octetThen high low (decoded (drop (at + 2) chars)) ≡ behind ((high * 16 + low) ∷ []) (decoded (drop (at + 2) chars)) =
-          simp (le-ltb 15 high good, le-ltb 15 low fine)
+      pub turn : high * 16 + low ≤ 255 → n < length frame → Going chars (set frame n (high * 16 + low)) (n + 1) (at + 2)
+      turn g room =
+          let pair : (rest : List ℕ) → decoded (getD chars at 0 ∷ getD chars (at + 1) 0 ∷ rest) ≡ behind ((high * 16 + low) ∷ []) (decoded rest) =
+          λ rest. rw (h, l) (good-pair (getD chars at 0) (getD chars (at + 1) 0) rest (rw (h, l) at g))
           in
           record {
             room = length-set frame n (high * 16 + low) ∙ going .room;
-            twice = omega arith;
-            within = omega arith;
-            reads =
-                reads-on ∙ ap (behind (take n frame)) sound
-                ∙ behind-twice (take n frame) (high * 16 + low) (decoded (drop (at + 2) chars))
-                ∙ ap (λ (f : List ℕ). behind f (decoded (drop (at + 2) chars)))
-                (sym (rw (add-one n) (take-suc-set frame n (high * 16 + low) room)));
+            twice = omega (arith, going .twice);
+            reads = λ rest.
+                ap decoded (passed rest) ∙ going .reads (getD chars at 0 ∷ getD chars (at + 1) 0 ∷ rest)
+                ∙ ap (behind (take n frame)) (pair rest)
+                ∙ behind-twice (take n frame) (high * 16 + low) (decoded rest)
+                ∙ ap (λ (f : List ℕ). behind f (decoded rest)) (sym (rw (add-one n) (take-suc-set frame n (high * 16 + low) room)));
           }
+
+-- What `decode` promises.
+abbrev pub Promised : List ℕ → LineRead → List ℕ → Type 0
+Promised chars r frame = (r ≡ answer (decoded chars)) × (take (sizeOf r) frame ≡ octetsOf (decoded chars))
+
+module _ {chars frame : List ℕ} {n : ℕ} (paired : Paired chars frame n) where
+  pub short : length chars ≤ 3200 → n * 2 < length chars → Promised chars (BadLine hexMalformed) frame
+  short few more =
+      let is : decoded chars ≡ refused hexMalformed =
+      ap decoded (sym (take-append-drop (n * 2) chars)) ∙ paired .reads (drop (n * 2) chars) ∙ ap (behind (take n frame)) (paired .ends few more)
+      in
+      rw is (refl, refl)
+
+  -- the octets of the pairs alone
+  pub octets-of : decoded (take (n * 2) chars) ≡ octets (take n frame)
+  unfolding decoded
+  octets-of =
+      ap decoded (sym (append-nil (take (n * 2) chars))) ∙ paired .reads [] ∙ ap octets (append-nil (take n frame))
+
+  pub whole : length frame ≡ 1600 → length chars ≤ n * 2 → Promised chars (Octets n) frame
+  whole room end =
+      let is : decoded chars ≡ octets (take n frame) = ap decoded (sym (take-all (n * 2) chars end)) ∙ octets-of in
+      let size : length (take n frame) ≡ n = length-take-le n frame (omega (arith, paired .few)) in
+      rw is (ap Octets (sym size), refl)

@@ -8,11 +8,7 @@ use borrow.Author.Tests.{lt-ltb, le-ltb}
 use Rattle.octets.proofs.Order.{lt-or-le}
 use Rattle.lines.specs.Decimal.{digits}
 use Rattle.lines.specs.Claims.{valueOf, DigitsTell}
-
--- the numbers of so many digits are below this
-abbrev beyond : ℕ → ℕ
-beyond zero = 1
-beyond (suc room) = beyond room * 10
+use Rattle.lines.proofs.Spelling.{beyond}
 
 value-append : (before : ℕ) (xs ys : List ℕ) → valueOf before (xs ++ ys) ≡ valueOf (valueOf before xs) ys
 value-append before [] ys = refl

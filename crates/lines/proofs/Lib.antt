@@ -1,9 +1,10 @@
 pub mod Spelling
+pub mod Keeping
 pub mod Appending
+pub mod HexTable
 pub mod Decoding
 pub mod LineCases
 pub mod Ends
-pub mod Keeping
 pub mod Inside
 pub mod Listings
 pub mod SubsTurns

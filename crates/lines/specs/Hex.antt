@@ -1,9 +1,10 @@
 -- Lower-case hex (document 01, "Listing program"): two characters an octet, the high half first; "an odd count, another character" get 9.
-use Prim.Native.Nat.{ℕ, _+_, _-_, _*_}
+use Prim.Native.Nat.{ℕ, _+_, _-_, _*_, _<_, _≤_}
+use mathlib.Core.Path.{_≡_}
 use mathlib.Core.List.{List, [], _∷_, _++_}
 use mathlib.Core.Bool.{cond}
 use lib.Dec.{ltb}
-use lib.ListN.{length}
+use lib.ListN.{length, take, drop}
 use Rattle.refusal.specs.Numbers.{hexMalformed}
 use Rattle.lines.specs.declared.line.LineRead.{LineRead}
 use Rattle.lines.specs.declared.line.LineRead.the-variants.{Octets, BadLine}
@@ -33,6 +34,14 @@ unfoldable pub decoded : List ℕ → Decoded
 decoded [] = octets []
 decoded (c ∷ []) = refused hexMalformed
 decoded (c ∷ d ∷ rest) = octetThen (hexValue c) (hexValue d) (decoded rest)
+
+-- The n pairs of hex characters that some characters start with, and their octets, whatever follows. Of at most 3,200 characters
+-- they are all, or what follows is refused.
+pub record Paired (chars frame : List ℕ) (n : ℕ) : Type 0 where
+  pub few : n ≤ 1600
+  pub within : n * 2 ≤ length chars
+  pub reads : (rest : List ℕ) → decoded (take (n * 2) chars ++ rest) ≡ behind (take n frame) (decoded rest)
+  pub ends : length chars ≤ 3200 → n * 2 < length chars → decoded (drop (n * 2) chars) ≡ refused hexMalformed
 
 -- the answer of the code, and the octets that it stands for
 abbrev pub answer : Decoded → LineRead

@@ -3,25 +3,291 @@ use crate::line::LineRead;
 ghost use mathlib.Core.Path.{_≡_};
 ghost use Prim.Native.Nat.{_≤_};
 ghost use lib.ListN.{length, take};
-ghost use Rattle.lines.specs.Hex.{hexValue, decoded, answer, octetsOf, sizeOf};
+ghost use Rattle.lines.specs.Hex.{decoded, Paired, answer, octetsOf, sizeOf};
 
-// The value of a character, and 16 of one that is no hex character.
-fn hex_value(c: u8) -> u8
-    ensures { λ r. ⌜ r ≡ hexValue c ⌝ }
+const MOST_OCTETS: usize = 1600;
+
+// The value of each character `0` to `9`, `a` to `f`, and 256 of any other, which no octet reaches.
+const HEX: [u16; 256] = [
+    256,
+    256,
+    256,
+    256,
+    256,
+    256,
+    256,
+    256,
+    256,
+    256,
+    256,
+    256,
+    256,
+    256,
+    256,
+    256,
+    256,
+    256,
+    256,
+    256,
+    256,
+    256,
+    256,
+    256,
+    256,
+    256,
+    256,
+    256,
+    256,
+    256,
+    256,
+    256,
+    256,
+    256,
+    256,
+    256,
+    256,
+    256,
+    256,
+    256,
+    256,
+    256,
+    256,
+    256,
+    256,
+    256,
+    256,
+    256,
+    0,
+    1,
+    2,
+    3,
+    4,
+    5,
+    6,
+    7,
+    8,
+    9,
+    256,
+    256,
+    256,
+    256,
+    256,
+    256,
+    256,
+    256,
+    256,
+    256,
+    256,
+    256,
+    256,
+    256,
+    256,
+    256,
+    256,
+    256,
+    256,
+    256,
+    256,
+    256,
+    256,
+    256,
+    256,
+    256,
+    256,
+    256,
+    256,
+    256,
+    256,
+    256,
+    256,
+    256,
+    256,
+    256,
+    256,
+    256,
+    256,
+    10,
+    11,
+    12,
+    13,
+    14,
+    15,
+    256,
+    256,
+    256,
+    256,
+    256,
+    256,
+    256,
+    256,
+    256,
+    256,
+    256,
+    256,
+    256,
+    256,
+    256,
+    256,
+    256,
+    256,
+    256,
+    256,
+    256,
+    256,
+    256,
+    256,
+    256,
+    256,
+    256,
+    256,
+    256,
+    256,
+    256,
+    256,
+    256,
+    256,
+    256,
+    256,
+    256,
+    256,
+    256,
+    256,
+    256,
+    256,
+    256,
+    256,
+    256,
+    256,
+    256,
+    256,
+    256,
+    256,
+    256,
+    256,
+    256,
+    256,
+    256,
+    256,
+    256,
+    256,
+    256,
+    256,
+    256,
+    256,
+    256,
+    256,
+    256,
+    256,
+    256,
+    256,
+    256,
+    256,
+    256,
+    256,
+    256,
+    256,
+    256,
+    256,
+    256,
+    256,
+    256,
+    256,
+    256,
+    256,
+    256,
+    256,
+    256,
+    256,
+    256,
+    256,
+    256,
+    256,
+    256,
+    256,
+    256,
+    256,
+    256,
+    256,
+    256,
+    256,
+    256,
+    256,
+    256,
+    256,
+    256,
+    256,
+    256,
+    256,
+    256,
+    256,
+    256,
+    256,
+    256,
+    256,
+    256,
+    256,
+    256,
+    256,
+    256,
+    256,
+    256,
+    256,
+    256,
+    256,
+    256,
+    256,
+    256,
+    256,
+    256,
+    256,
+    256,
+    256,
+    256,
+    256,
+    256,
+    256,
+    256,
+    256,
+    256,
+    256,
+    256,
+    256,
+    256,
+    256,
+    256,
+    256,
+    256,
+    256,
+    256,
+    256,
+    256,
+    256,
+    256,
+    256,
+    256,
+];
+
+// The pairs of hex characters that some characters start with, at most 1,600: their octets, at the start of `frame`. Answers how many.
+pub(crate) fn pairs(chars: &[u8], frame: &mut [u8]) -> usize
+    requires { ⌜ length (now frame) ≡ 1600 ⌝ }
+    ensures { λ r. ⌜ Paired (now (chars .entry)) (now (frame .exit)) r ⌝ }
 {
-    if c < 48 {
-        return 16;
+    let hex = HEX;
+    let most = crate::pieces::least(chars.len() / 2, MOST_OCTETS);
+    let mut n: usize = 0;
+    let mut at: usize = 0;
+    while n < most {
+        let high = hex[chars[at] as usize];
+        let low = hex[chars[at + 1] as usize];
+        let both = high * 16 + low;
+        if 255 < both {
+            return n;
+        }
+        frame[n] = both as u8;
+        n += 1;
+        at += 2;
     }
-    if c < 58 {
-        return c - 48;
-    }
-    if c < 97 {
-        return 16;
-    }
-    if c < 103 {
-        return c - 87;
-    }
-    16
+    n
 }
 
 // The octets of some characters, at the start of `frame`.
@@ -31,22 +297,8 @@ pub(crate) fn decode(chars: &[u8], frame: &mut [u8]) -> LineRead
     ensures says { λ r. ⌜ r ≡ answer (decoded (now (chars .entry))) ⌝ }
     ensures holds { λ r. ⌜ take (sizeOf r) (now (frame .exit)) ≡ octetsOf (decoded (now (chars .entry))) ⌝ }
 {
-    let mut n: usize = 0;
-    let mut at: usize = 0;
-    while at + 1 < chars.len() {
-        let high = hex_value(chars[at]);
-        let low = hex_value(chars[at + 1]);
-        if 15 < high {
-            return LineRead::BadLine(refusal::HEX_MALFORMED);
-        }
-        if 15 < low {
-            return LineRead::BadLine(refusal::HEX_MALFORMED);
-        }
-        frame[n] = high * 16 + low;
-        n += 1;
-        at += 2;
-    }
-    if at < chars.len() {
+    let n = pairs(chars, frame);
+    if n * 2 < chars.len() {
         return LineRead::BadLine(refusal::HEX_MALFORMED);
     }
     LineRead::Octets(n)
