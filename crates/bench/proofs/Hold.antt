@@ -5,7 +5,7 @@ use Rattle.frame.specs.Opening.{scan, scanned, opening}
 use Rattle.frame.specs.Joining.{shortestHeader, joined}
 use Rattle.digits.specs.Layout.{digitsMade}
 use Rattle.signalling.specs.Layout.{halves, signallingRead}
-use Rattle.signalling.specs.Receiver.{replayed, receivedRead}
+use Rattle.seizing.specs.Receiver.{replayed, receivedRead}
 use Rattle.data.specs.Data.{dataMade}
 use Rattle.fax.specs.Fax.{frontOf, bodySized, toneRefused, faxMade}
 use Rattle.bench.specs.Examples.{Hold, examples}

@@ -12,8 +12,8 @@ use Rattle.frame.specs.Joining.{Content, shortestHeader, joined}
 use Rattle.framing.specs.Claims.{list}
 use Rattle.digits.specs.declared.layout.Digits.{Digits}
 use Rattle.digits.specs.Layout.{digitsMade}
-use Rattle.signalling.specs.declared.receiver.Received.{Received}
-use Rattle.signalling.specs.Receiver.{freshReceiver, received}
+use Rattle.seizing.specs.declared.receiver.Received.{Received}
+use Rattle.seizing.specs.Receiver.{freshReceiver, received}
 use Rattle.data.specs.Data.{dataMade}
 use Rattle.fax.specs.declared.Stamp.the-variants.{Stamped}
 use Rattle.fax.specs.declared.Command.the-variants.{On}

@@ -13,10 +13,10 @@ use Rattle.digits.specs.declared.layout.Window.{Window}
 use Rattle.digits.specs.declared.layout.Digits.{Digits}
 use Rattle.digits.specs.declared.layout.DigitsRead.{DigitsRead}
 use Rattle.digits.specs.declared.layout.DigitsRead.the-variants.{Dialled, BadDigits}
-use Rattle.digits.specs.declared.receiver.Receiver.{Receiver}
-use Rattle.digits.specs.declared.receiver.Received.{Received}
+use Rattle.dialling.specs.declared.receiver.Receiver.{Receiver}
+use Rattle.dialling.specs.declared.receiver.Received.{Received}
 use Rattle.digits.specs.Layout.{digitsRead}
-use Rattle.digits.specs.Receiver.{stepFrom, fillOf, places, receiverAfter, appended, receivedBy, received}
+use Rattle.dialling.specs.Receiver.{stepFrom, fillOf, places, receiverAfter, appended, receivedBy, received}
 use Rattle.replay.specs.Rule.{fillCount, carriedCount, newest}
 use Rattle.replay.specs.Periods.{Payload, Mark, filled, carried}
 use Rattle.replay.specs.Claims as replays

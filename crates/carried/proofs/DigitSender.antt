@@ -11,16 +11,16 @@ use Rattle.octets.specs.Made.{Made}
 use Rattle.octets.proofs.Order.{either}
 use Rattle.counts.proofs.Laws.{laws}
 use Rattle.digits.specs.declared.layout.Window.{Window}
-use Rattle.digits.specs.declared.sender.Entry.{Entry}
-use Rattle.digits.specs.declared.sender.Sender.{Sender}
-use Rattle.digits.specs.declared.sender.Sending.{Sending}
-use Rattle.digits.specs.declared.sender.Sending.the-variants.{BadEntry, Unsent, Sent}
-use Rattle.digits.specs.declared.sender.Taken.{Taken}
+use Rattle.dialling.specs.declared.sender.Entry.{Entry}
+use Rattle.dialling.specs.declared.sender.Sender.{Sender}
+use Rattle.dialling.specs.declared.sender.Sending.{Sending}
+use Rattle.dialling.specs.declared.sender.Sending.the-variants.{BadEntry, Unsent, Sent}
+use Rattle.dialling.specs.declared.sender.Taken.{Taken}
 use Rattle.digits.specs.Layout.{offWindow, digitsRead, digitsMade}
-use Rattle.digits.specs.Sender.{freshSender, windowIn, due, payloadOf, afterSent, afterUnsent, sending}
-use Rattle.digits.specs.SenderClaims.{Proper, ReadsBack}
-use Rattle.digits.proofs.SenderBack.{split, fresh-proper, stays-proper, sent-reads-back}
-use Rattle.digits.proofs.SenderCases as cases
+use Rattle.dialling.specs.Sender.{freshSender, windowIn, due, payloadOf, afterSent, afterUnsent, sending}
+use Rattle.dialling.specs.SenderClaims.{Proper, ReadsBack}
+use Rattle.dialling.proofs.SenderBack.{split, fresh-proper, stays-proper, sent-reads-back}
+use Rattle.dialling.proofs.SenderCases as cases
 use Rattle.replay.specs.Periods.{pay, Rising}
 use Rattle.replay.proofs.Sublists.{Each, rising-from}
 use Rattle.carried.specs.Emissions.{Emission, octetsOf}

@@ -5,8 +5,8 @@ use mathlib.Core.List.{List, [], _∷_, map}
 use mathlib.Core.Option.{Option}
 use native.Mathlib.Omega.{arith}
 use Rattle.digits.specs.declared.layout.Window.{Window}
-use Rattle.digits.specs.Sender.{freshSender}
-use Rattle.digits.specs.Receiver.{freshReceiver}
+use Rattle.dialling.specs.Sender.{freshSender}
+use Rattle.dialling.specs.Receiver.{freshReceiver}
 use Rattle.replay.specs.Periods.{Payload, pay}
 use Rattle.replay.specs.Claims.{broughtBy, joinedTo}
 use Rattle.replay.proofs.Sublists.{Each, each-some, sublist-map, rising-some, sublist-among}

@@ -4,8 +4,8 @@ use mathlib.Core.Path.{_≡_, refl, ap, _∙_}
 use mathlib.Core.List.{List, [], _∷_, map}
 use mathlib.Core.Option.{Option}
 use native.Mathlib.Omega.{arith}
-use Rattle.signalling.specs.Sender.{started}
-use Rattle.signalling.specs.Receiver.{freshReceiver}
+use Rattle.seizing.specs.Sender.{started}
+use Rattle.seizing.specs.Receiver.{freshReceiver}
 use Rattle.replay.specs.Periods.{Payload, pay}
 use Rattle.replay.specs.Claims.{broughtBy, joinedTo}
 use Rattle.replay.proofs.Sublists.{Each, each-some, sublist-map, rising-some}

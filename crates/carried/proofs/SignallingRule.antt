@@ -13,10 +13,10 @@ use Rattle.octets.proofs.Order.{eq-or-ne}
 use Rattle.counts.specs.Round.{step}
 use Rattle.signalling.specs.declared.layout.Signalling.{Signalling}
 use Rattle.signalling.specs.declared.layout.SignallingRead.{SignallingRead}
-use Rattle.signalling.specs.declared.receiver.Receiver.{Receiver}
-use Rattle.signalling.specs.declared.receiver.Received.{Received}
+use Rattle.seizing.specs.declared.receiver.Receiver.{Receiver}
+use Rattle.seizing.specs.declared.receiver.Received.{Received}
 use Rattle.signalling.specs.Layout.{halves, nothing, signallingRead}
-use Rattle.signalling.specs.Receiver.{stepFrom, fillOf, periodsOf, replayed, receivedRead, received}
+use Rattle.seizing.specs.Receiver.{stepFrom, fillOf, periodsOf, replayed, receivedRead, received}
 use Rattle.signalling.proofs.Halves.{length-halves}
 use Rattle.replay.specs.Rule.{fillCount, carriedCount, newest}
 use Rattle.replay.specs.Periods.{Payload, Mark, filled, carried}

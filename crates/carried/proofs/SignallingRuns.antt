@@ -10,13 +10,13 @@ use lib.Dec.{eqb}
 use lib.ListN.{length, replicate}
 use Rattle.refusal.specs.Numbers.{sound}
 use Rattle.octets.proofs.Order.{either}
-use Rattle.signalling.specs.declared.sender.Entry.{Entry}
-use Rattle.signalling.specs.declared.sender.Sender.{Sender}
-use Rattle.signalling.specs.declared.sender.Sent.{Sent}
+use Rattle.seizing.specs.declared.sender.Entry.{Entry}
+use Rattle.seizing.specs.declared.sender.Sender.{Sender}
+use Rattle.seizing.specs.declared.sender.Sent.{Sent}
 use Rattle.signalling.specs.Layout.{allAllowed}
-use Rattle.signalling.specs.Sender.{started, allEqual, isQuiet, runAfter, goingOut, nothingDue}
-use Rattle.signalling.specs.Sender as defined
-use Rattle.signalling.specs.Receiver.{freshReceiver}
+use Rattle.seizing.specs.Sender.{started, allEqual, isQuiet, runAfter, goingOut, nothingDue}
+use Rattle.seizing.specs.Sender as defined
+use Rattle.seizing.specs.Receiver.{freshReceiver}
 use Rattle.replay.specs.Periods.{pay, range, Near, Among}
 use Rattle.replay.specs.Claims.{Replays}
 use Rattle.replay.specs.Examples.{picked}

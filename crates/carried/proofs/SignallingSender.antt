@@ -16,12 +16,12 @@ use Rattle.octets.specs.Made.{Made}
 use Rattle.octets.proofs.Order.{lt-or-le, either}
 use Rattle.counts.specs.Round.{onward}
 use Rattle.counts.proofs.Laws.{laws}
-use Rattle.signalling.specs.declared.sender.Entry.{Entry}
-use Rattle.signalling.specs.declared.sender.Sender.{Sender}
-use Rattle.signalling.specs.declared.sender.Sent.{Sent}
+use Rattle.seizing.specs.declared.sender.Entry.{Entry}
+use Rattle.seizing.specs.declared.sender.Sender.{Sender}
+use Rattle.seizing.specs.declared.sender.Sent.{Sent}
 use Rattle.signalling.specs.Layout.{allowed, allAllowed, signallingRead, signallingMade}
-use Rattle.signalling.specs.Sender.{senderFrom, started, isQuiet, runAfter, windowsAfter, payloadOf, goingOut, nothingDue, period, sent, Proper}
-use Rattle.signalling.proofs.SenderBack.{sender-starts, sender-stays, payload-back}
+use Rattle.seizing.specs.Sender.{senderFrom, started, isQuiet, runAfter, windowsAfter, payloadOf, goingOut, nothingDue, period, sent, Proper}
+use Rattle.seizing.proofs.SenderBack.{sender-starts, sender-stays, payload-back}
 use Rattle.replay.specs.Periods.{pay, Rising}
 use Rattle.replay.proofs.Sublists.{Each, rising-from}
 use Rattle.carried.specs.Emissions.{Emission, octetsOf}

@@ -4,9 +4,9 @@ use mathlib.Core.List.{List, [], _∷_, map}
 use mathlib.Core.Bool.{true, false}
 use lib.ListN.{replicate}
 use lib.IntN.{negsuc}
-use Rattle.digits.specs.declared.sender.Entry.{Entry}
-use Rattle.digits.specs.Sender.{freshSender}
-use Rattle.digits.specs.Receiver.{freshReceiver}
+use Rattle.dialling.specs.declared.sender.Entry.{Entry}
+use Rattle.dialling.specs.Sender.{freshSender}
+use Rattle.dialling.specs.Receiver.{freshReceiver}
 use Rattle.replay.specs.Periods.{Sublist}
 use Rattle.replay.specs.Claims.{Replays}
 use Rattle.replay.specs.Examples.{picked}

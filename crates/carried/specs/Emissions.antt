@@ -11,7 +11,7 @@ pub record Emission : Type 0 where
   pub octets : List ℕ
 
 -- The octets that a writer makes of a content; none where it refuses, which never happens to a sent payload (AllReadsBack of
--- digits/specs/SenderClaims.antt, SentReadsBack of signalling/specs/Claims.antt).
+-- dialling/specs/SenderClaims.antt, SentReadsBack of seizing/specs/Claims.antt).
 abbrev pub octetsOf : Made → List ℕ
 octetsOf (made octets) = octets
 octetsOf (unmade refusal) = []

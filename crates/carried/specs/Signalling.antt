@@ -1,9 +1,9 @@
 -- Demand 3 for signalling (seizure bits): what two fresh receivers have in their records when payloads of one sender arrive,
 -- through the octets of the payloads. Proved in proofs/Signalling.antt, by the replay theorem.
 --
--- It holds of the code by the contracts: `started` is what `signalling::sender::start` answers, `sent` is what
--- `signalling::sender::send` answers, `signallingMade` is what `signalling::layout::put_signalling` writes, `received` is what
--- `signalling::receiver::receive` answers, and `freshReceiver` is what `signalling::receiver::fresh` returns.
+-- It holds of the code by the contracts: `started` is what `seizing::sender::start` answers, `sent` is what
+-- `seizing::sender::send` answers, `signallingMade` is what `signalling::layout::put_signalling` writes, `received` is what
+-- `seizing::receiver::receive` answers, and `freshReceiver` is what `seizing::receiver::fresh` returns.
 use Prim.Native.Nat.{ℕ, suc, _-_}
 use mathlib.Core.Path.{_≡_}
 use mathlib.Core.List.{List, [], _∷_, _++_, map}
@@ -11,14 +11,14 @@ use mathlib.Core.Bool.{Bool, cond}
 use lib.Dec.{eqb}
 use lib.ListN.{length, getD, take, drop, replicate}
 use Rattle.refusal.specs.Numbers.{sound}
-use Rattle.signalling.specs.declared.sender.Entry.{Entry}
-use Rattle.signalling.specs.declared.sender.Sender.{Sender}
-use Rattle.signalling.specs.declared.sender.Sent.{Sent}
-use Rattle.signalling.specs.declared.receiver.Receiver.{Receiver}
-use Rattle.signalling.specs.declared.receiver.Received.{Received}
+use Rattle.seizing.specs.declared.sender.Entry.{Entry}
+use Rattle.seizing.specs.declared.sender.Sender.{Sender}
+use Rattle.seizing.specs.declared.sender.Sent.{Sent}
+use Rattle.seizing.specs.declared.receiver.Receiver.{Receiver}
+use Rattle.seizing.specs.declared.receiver.Received.{Received}
 use Rattle.signalling.specs.Layout.{signallingMade}
-use Rattle.signalling.specs.Sender.{started, sent}
-use Rattle.signalling.specs.Receiver.{freshReceiver, farthest, received}
+use Rattle.seizing.specs.Sender.{started, sent}
+use Rattle.seizing.specs.Receiver.{freshReceiver, farthest, received}
 use Rattle.replay.specs.Periods.{Mark, filled, carried, Near, Among, Sublist}
 use Rattle.replay.specs.Claims.{BothReplay}
 use Rattle.carried.specs.Emissions.{Emission, octetsOf}

@@ -29,7 +29,7 @@ pub struct Digits {
 }
 
 // An off period without an edge: the start state, and what an unused place holds.
-pub(crate) fn off_window() -> Window
+pub fn off_window() -> Window
     ensures { λ r. ⌜ r ≡ offWindow ⌝ }
 {
     Window {
@@ -111,7 +111,7 @@ pub fn read_digits(payload: &[u8]) -> DigitsRead
 }
 
 // An edge, or the code of an on window, that its bits or its range do not take.
-pub(crate) fn window_wrong(w: Window) -> bool
+pub fn window_wrong(w: Window) -> bool
     ensures { λ r. ⌜ r ≡ windowWrong w ⌝ }
 {
     if 19 < w.edge {
@@ -124,7 +124,7 @@ pub(crate) fn window_wrong(w: Window) -> bool
 }
 
 // Whether a level is below -31.
-pub(crate) fn level_low(level: i8) -> bool
+pub fn level_low(level: i8) -> bool
     ensures { λ r. ⌜ r ≡ levelLow (codeOf 31 level) ⌝ }
 {
     match levels::code_of(level, 31) {

@@ -4,7 +4,7 @@ use mathlib.Core.Path.{_≡_, ap, sym, _∙_}
 use mathlib.Core.List.{List}
 use Rattle.record.specs.declared.syntax.Record.{Record}
 use Rattle.record.specs.declared.table.Found.{Found}
-use Rattle.digits.specs.declared.receiver.Receiver.{Receiver}
+use Rattle.dialling.specs.declared.receiver.Receiver.{Receiver}
 use Rattle.voice.specs.declared.voice.VoiceRead.{VoiceRead}
 use Rattle.voice.specs.Voice.{voiceRead}
 use Rattle.payload.specs.declared.layout.Layout.{Layout}

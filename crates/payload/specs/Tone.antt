@@ -2,8 +2,8 @@
 -- a sounding tone". Silence, a refused payload and type 0 on a fax or data sub-channel do not.
 use Prim.Native.Nat.{ℕ}
 use mathlib.Core.List.{List}
-use Rattle.digits.specs.declared.receiver.Receiver.{Receiver}
-use Rattle.digits.specs.Receiver.{voiceHeard}
+use Rattle.dialling.specs.declared.receiver.Receiver.{Receiver}
+use Rattle.dialling.specs.Receiver.{voiceHeard}
 use Rattle.voice.specs.declared.voice.VoiceRead.{VoiceRead}
 use Rattle.voice.specs.declared.voice.VoiceRead.the-variants.{Voice, BadVoice}
 use Rattle.voice.specs.Voice.{voiceRead}

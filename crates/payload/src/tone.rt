@@ -1,6 +1,6 @@
 // A voice payload at the digit receiver (document 01, "Receivers").
 use crate::layout::Layout;
-use digits::receiver::Receiver;
+use dialling::receiver::Receiver;
 use record::table::Found;
 use voice::voice::VoiceRead;
 ghost use mathlib.Core.Path.{_≡_};
@@ -14,7 +14,7 @@ pub fn after_payload(receiver: Receiver, found: Found, ptype: u8, payload: &[u8]
 {
     match crate::layout::layout_of(found, ptype) {
         Layout::OfVoice(rec) => match voice::voice::read_voice(rec, payload) {
-            VoiceRead::Voice { .. } => digits::receiver::hear_voice(receiver),
+            VoiceRead::Voice { .. } => dialling::receiver::hear_voice(receiver),
             VoiceRead::BadVoice(_) => receiver,
         },
         Layout::OfDigits => receiver,

@@ -36,11 +36,11 @@ fn main() {
 fn run(input: &mut [u8], works: u64, first: usize, table: &mut [u16; 256], room: &mut [u8]) -> u64 {
     let row = octets::octet(input, 0);
     let silence = [85u8; 20];
-    let mut dialler = digits::sender::fresh();
-    let mut dialled = digits::receiver::fresh();
-    let started = signalling::sender::start(0);
+    let mut dialler = dialling::sender::fresh();
+    let mut dialled = dialling::receiver::fresh();
+    let started = seizing::sender::start(0);
     let mut seizer = started.sender;
-    let mut seized = signalling::receiver::fresh();
+    let mut seized = seizing::receiver::fresh();
     let mut acc = fold::FIRST;
     let mut at = first;
     let mut left = works;
@@ -71,7 +71,7 @@ fn run(input: &mut [u8], works: u64, first: usize, table: &mut [u16; 256], room:
                 acc = writes::octets(acc, room);
             }
             b'd' => {
-                let taken = digits::sender::send(
+                let taken = dialling::sender::send(
                     dialler,
                     steps::digit_entry(items::octets_of(input, item)),
                 );
@@ -80,12 +80,12 @@ fn run(input: &mut [u8], works: u64, first: usize, table: &mut [u16; 256], room:
                 acc = steps::sending(acc, answer);
             }
             b'e' => {
-                let received = digits::receiver::receive(dialled, items::octets_of(input, item));
+                let received = dialling::receiver::receive(dialled, items::octets_of(input, item));
                 dialled = received.receiver;
                 acc = steps::received(acc, received);
             }
             b's' => {
-                let sent = signalling::sender::send(
+                let sent = seizing::sender::send(
                     seizer,
                     steps::signalling_entry(items::octets_of(input, item)),
                 );
@@ -93,7 +93,7 @@ fn run(input: &mut [u8], works: u64, first: usize, table: &mut [u16; 256], room:
                 acc = steps::sent(acc, sent);
             }
             b't' => {
-                let received = signalling::receiver::receive(seized, items::octets_of(input, item));
+                let received = seizing::receiver::receive(seized, items::octets_of(input, item));
                 seized = received.receiver;
                 acc = steps::seized(acc, received);
             }

@@ -3,10 +3,10 @@ use crate::fold::flag;
 use crate::fold::fold;
 use crate::fold::octet;
 use crate::fold::window;
+use dialling::sender::Sending;
 use digits::layout::Digits;
-use digits::sender::Sending;
+use seizing::sender::Sent;
 use signalling::layout::Signalling;
-use signalling::sender::Sent;
 
 const NOTHING: u64 = 300;
 
@@ -36,8 +36,8 @@ pub fn level_in(octet: u8) -> i8 {
 }
 
 // The entry of four octets.
-pub fn digit_entry(item: &[u8]) -> digits::sender::Entry {
-    digits::sender::Entry {
+pub fn digit_entry(item: &[u8]) -> dialling::sender::Entry {
+    dialling::sender::Entry {
         on: octets::octet(item, 0) % 2 == 1,
         code: octets::octet(item, 1),
         edge: octets::octet(item, 2),
@@ -53,7 +53,7 @@ pub fn sending(acc: u64, answer: Sending) -> u64 {
     }
 }
 
-pub fn received(acc: u64, received: digits::receiver::Received) -> u64 {
+pub fn received(acc: u64, received: dialling::receiver::Received) -> u64 {
     let fill = received.fill;
     let periods = received.periods;
     let said = octet(octet(acc, received.number), received.fills);
@@ -62,10 +62,10 @@ pub fn received(acc: u64, received: digits::receiver::Received) -> u64 {
 }
 
 // The entry of eleven octets.
-pub fn signalling_entry(item: &[u8]) -> signalling::sender::Entry {
+pub fn signalling_entry(item: &[u8]) -> seizing::sender::Entry {
     let mut samples = [0u8; 10];
     octets::put_octets(&mut samples, 0, crate::items::part(item, 1, 10));
-    signalling::sender::Entry {
+    seizing::sender::Entry {
         alarm: octets::octet(item, 0) % 2 == 1,
         samples,
     }
@@ -82,7 +82,7 @@ pub fn sent(acc: u64, sent: Sent) -> u64 {
     fold(acc, NOTHING)
 }
 
-pub fn seized(acc: u64, received: signalling::receiver::Received) -> u64 {
+pub fn seized(acc: u64, received: seizing::receiver::Received) -> u64 {
     let periods = received.periods;
     let receiver = received.receiver;
     let said = octet(octet(acc, received.number), received.fills);

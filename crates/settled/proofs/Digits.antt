@@ -8,16 +8,12 @@ use Rattle.digits.proofs.layout.fit_digits.Kinds as layout-fit-digits-kinds
 use Rattle.digits.proofs.layout.fit_digits.Reads as layout-fit-digits-reads
 use Rattle.digits.proofs.layout.put_digits.Kinds as layout-put-digits-kinds
 use Rattle.digits.proofs.layout.put_digits.Reads as layout-put-digits-reads
-use Rattle.digits.proofs.receiver.fresh.Kinds as receiver-fresh-kinds
-use Rattle.digits.proofs.receiver.fresh.Reads as receiver-fresh-reads
-use Rattle.digits.proofs.receiver.receive.Kinds as receiver-receive-kinds
-use Rattle.digits.proofs.receiver.receive.Reads as receiver-receive-reads
-use Rattle.digits.proofs.receiver.hear_voice.Kinds as receiver-hear-voice-kinds
-use Rattle.digits.proofs.receiver.hear_voice.Reads as receiver-hear-voice-reads
-use Rattle.digits.proofs.sender.fresh.Kinds as sender-fresh-kinds
-use Rattle.digits.proofs.sender.fresh.Reads as sender-fresh-reads
-use Rattle.digits.proofs.sender.send.Kinds as sender-send-kinds
-use Rattle.digits.proofs.sender.send.Reads as sender-send-reads
+use Rattle.digits.proofs.layout.off_window.Kinds as layout-off-window-kinds
+use Rattle.digits.proofs.layout.off_window.Reads as layout-off-window-reads
+use Rattle.digits.proofs.layout.window_wrong.Kinds as layout-window-wrong-kinds
+use Rattle.digits.proofs.layout.window_wrong.Reads as layout-window-wrong-reads
+use Rattle.digits.proofs.layout.level_low.Kinds as layout-level-low-kinds
+use Rattle.digits.proofs.layout.level_low.Reads as layout-level-low-reads
 
 pub layout-read-digits : OneAnswer 1 layout-read-digits-kinds.ps layout-read-digits-kinds.r nothing layout-read-digits-reads.Post
 layout-read-digits κs a x y s t p q = (p ∙ sym q, refl)
@@ -28,17 +24,11 @@ layout-fit-digits κs a x y s t p q = (p ∙ sym q, refl)
 pub layout-put-digits : OneAnswer 1 layout-put-digits-kinds.ps layout-put-digits-kinds.r (λ κs s. now (s .0)) layout-put-digits-reads.Post
 layout-put-digits κs a x y s t p q = (p .0 ∙ sym (q .0), cc)
 
-pub receiver-fresh : OneAnswer 0 receiver-fresh-kinds.ps receiver-fresh-kinds.r nothing receiver-fresh-reads.Post
-receiver-fresh κs a x y s t p q = (p ∙ sym q, refl)
+pub layout-off-window : OneAnswer 0 layout-off-window-kinds.ps layout-off-window-kinds.r nothing layout-off-window-reads.Post
+layout-off-window κs a x y s t p q = (p ∙ sym q, refl)
 
-pub receiver-receive : OneAnswer 1 receiver-receive-kinds.ps receiver-receive-kinds.r nothing receiver-receive-reads.Post
-receiver-receive κs a x y s t p q = (p ∙ sym q, refl)
+pub layout-window-wrong : OneAnswer 0 layout-window-wrong-kinds.ps layout-window-wrong-kinds.r nothing layout-window-wrong-reads.Post
+layout-window-wrong κs a x y s t p q = (p ∙ sym q, refl)
 
-pub receiver-hear-voice : OneAnswer 0 receiver-hear-voice-kinds.ps receiver-hear-voice-kinds.r nothing receiver-hear-voice-reads.Post
-receiver-hear-voice κs a x y s t p q = (p ∙ sym q, refl)
-
-pub sender-fresh : OneAnswer 0 sender-fresh-kinds.ps sender-fresh-kinds.r nothing sender-fresh-reads.Post
-sender-fresh κs a x y s t p q = (p ∙ sym q, refl)
-
-pub sender-send : OneAnswer 0 sender-send-kinds.ps sender-send-kinds.r nothing sender-send-reads.Post
-sender-send κs a x y s t p q = (p ∙ sym q, refl)
+pub layout-level-low : OneAnswer 0 layout-level-low-kinds.ps layout-level-low-kinds.r nothing layout-level-low-reads.Post
+layout-level-low κs a x y s t p q = (p ∙ sym q, refl)

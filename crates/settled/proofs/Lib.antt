@@ -4,7 +4,9 @@ pub mod Frame
 pub mod Levels
 pub mod Record
 pub mod Digits
+pub mod Dialling
 pub mod Signalling
+pub mod Seizing
 pub mod Data
 pub mod Fax
 pub mod Voice

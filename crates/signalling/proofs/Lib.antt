@@ -1,11 +1,4 @@
 pub mod Halves
 pub mod Samples
-pub mod Words
-pub mod Windows
 pub mod LayoutCases
 pub mod LayoutBack
-pub mod SenderCases
-pub mod ReceiverCases
-pub mod QuietRun
-pub mod SenderBack
-pub mod Examples

@@ -6,10 +6,8 @@ use mathlib.Core.Bool.{Bool, true, false, cond}
 use native.Mathlib.Nat.{not-suc-le-zero, le-of-suc-le-suc, add-zero}
 use native.Mathlib.Omega.{arith}
 use lib.ListN.{getD}
-use lib.Dec.{eqb}
 use Rattle.octets.proofs.Order.{clash, either}
 use Rattle.signalling.specs.Layout.{allowed, allAllowed}
-use Rattle.signalling.specs.Sender.{allEqual}
 
 -- Samples looked at one by one: of n samples, after i turns what is left to be looked at decides.
 pub record Looks (test : ℕ → Bool) (look : ℕ → ℕ → Bool) : Type 0 where
@@ -19,10 +17,6 @@ pub record Looks (test : ℕ → Bool) (look : ℕ → ℕ → Bool) : Type 0 wh
 pub allowed-looks : (samples : List ℕ) → Looks (λ (i : ℕ). allowed (getD samples i 0)) (λ (n i : ℕ). allAllowed n i samples)
 unfolding allAllowed
 allowed-looks samples = record { none = λ i. refl; more = λ n i. refl }
-
-pub equal-looks : (sample : ℕ) (samples : List ℕ) → Looks (λ (i : ℕ). eqb sample (getD samples i 0)) (λ (n i : ℕ). allEqual sample n i samples)
-unfolding allEqual
-equal-looks sample samples = record { none = λ i. refl; more = λ n i. refl }
 
 module _ {test : ℕ → Bool} {look : ℕ → ℕ → Bool} (looks : Looks test look) (whole : Bool) (n i : ℕ) (is : whole ≡ look (n - i) i) where
   module _ (left : i < n) where

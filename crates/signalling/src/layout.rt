@@ -65,14 +65,14 @@ pub fn read_signalling(payload: &[u8]) -> SignallingRead
 }
 
 // Whether a sample is allowed.
-pub(crate) fn allowed(sample: u8) -> bool
+pub fn allowed(sample: u8) -> bool
     ensures { λ r. ⌜ r ≡ allowed sample ⌝ }
 {
     sample < 16
 }
 
 // Whether all samples are allowed.
-pub(crate) fn all_allowed(samples: &[u8]) -> bool
+fn all_allowed(samples: &[u8]) -> bool
     ensures { λ r. ⌜ r ≡ allAllowed (length (now (samples .entry))) 0 (now (samples .entry)) ⌝ }
 {
     let mut i: usize = 0;

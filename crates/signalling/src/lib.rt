@@ -1,5 +1,2 @@
-// Seizure bits: payloads, and senders and receivers of them (document 01, "Payload types": signalling, "Senders, per 20 ms"
-// and "Receivers"; FRF.11, Annex B).
+// Signalling payloads (document 01, "Payload types": signalling; FRF.11, Annex B).
 pub mod layout;
-pub mod receiver;
-pub mod sender;

@@ -1,15 +1,15 @@
 // Sends digits and seizure bits, loses some payloads and replays the rest: lines in, answers out, as docs/TRIAL.md says.
-mod dialling;
+mod dial;
 mod hex;
 mod input;
 mod line;
 mod print;
-mod seizing;
+mod seize;
 
-use crate::dialling::Dialling;
+use crate::dial::Dialling;
 use crate::input::Input;
 use crate::line::Kind;
-use crate::seizing::Seizing;
+use crate::seize::Seizing;
 
 // The senders and receivers of both kinds.
 struct Parties {
@@ -34,32 +34,32 @@ fn take(kind: Kind, octets: &[u8], parties: Parties) -> Parties {
     let seizing = parties.seizing;
     match kind {
         Kind::Digit => Parties {
-            dialling: crate::dialling::digit(dialling, octets),
+            dialling: crate::dial::digit(dialling, octets),
             seizing,
         },
         Kind::Digits => Parties {
-            dialling: crate::dialling::digits(dialling, octets),
+            dialling: crate::dial::digits(dialling, octets),
             seizing,
         },
         Kind::Voice => Parties {
-            dialling: crate::dialling::voice(dialling, octets),
+            dialling: crate::dial::voice(dialling, octets),
             seizing,
         },
         Kind::Start => Parties {
             dialling,
-            seizing: crate::seizing::start(seizing, octets),
+            seizing: crate::seize::start(seizing, octets),
         },
         Kind::Samples => Parties {
             dialling,
-            seizing: crate::seizing::samples(seizing, octets),
+            seizing: crate::seize::samples(seizing, octets),
         },
         Kind::Signalling => Parties {
             dialling,
-            seizing: crate::seizing::signalling(seizing, octets),
+            seizing: crate::seize::signalling(seizing, octets),
         },
         Kind::Fresh => Parties {
-            dialling: crate::dialling::fresh(dialling, octets),
-            seizing: crate::seizing::fresh(seizing, octets),
+            dialling: crate::dial::fresh(dialling, octets),
+            seizing: crate::seize::fresh(seizing, octets),
         },
         Kind::Unknown => parties,
     }
@@ -106,8 +106,8 @@ fn turn(number: u64, block: &mut [u8], room: &mut [u8], input: Input, parties: P
 // All lines, numbered from 1. No run uses the numbers up.
 fn run(block: &mut [u8], room: &mut [u8]) {
     let mut parties = Parties {
-        dialling: crate::dialling::start_state(),
-        seizing: crate::seizing::start_state(),
+        dialling: crate::dial::start_state(),
+        seizing: crate::seize::start_state(),
     };
     let mut input = crate::input::unread();
     let mut number: u64 = 0;

@@ -1,0 +1,4 @@
+pub mod SenderCases
+pub mod SenderBack
+pub mod ReceiverCases
+pub mod Examples

@@ -1,0 +1,4 @@
+pub mod Sender
+pub mod Receiver
+pub mod SenderClaims
+pub mod Examples

@@ -1,0 +1,57 @@
+-- What `period` and `sent` give in each of their cases.
+use Prim.Native.Nat.{ℕ}
+use mathlib.Core.Path.{_≡_, sym, ap, _∙_}
+use mathlib.Core.List.{List}
+use mathlib.Core.Bool.{Bool, true, false}
+use lib.ListN.{getD}
+use Rattle.refusal.specs.Numbers.{sound, valueOutOfRange}
+use Rattle.counts.specs.Round.{onward}
+use Rattle.counts.specs.declared.SignallingCount.{SignallingCount}
+use Rattle.seizing.specs.declared.sender.Entry.{Entry}
+use Rattle.seizing.specs.declared.sender.Sender.{Sender}
+use Rattle.seizing.specs.declared.sender.Decision.{Decision}
+use Rattle.seizing.specs.declared.sender.Decision.the-variants.{Sends, Repeats, Rests}
+use Rattle.signalling.specs.Layout.{allAllowed}
+use Rattle.seizing.specs.Sender.{isQuiet, decision, runAfter, windowsAfter, decisionOf, goingOut, nothingDue, period, sent}
+
+-- the state after a period, in the code's terms
+abbrev pub stateOf : Entry → ℕ → SignallingCount → List ℕ → Sender
+stateOf e run number windows = record { last = number; before = getD (e .samples) 9 0; quiet = run; windows = windows }
+
+module _ (s : Sender) (e : Entry) (quiet : Bool) (run : ℕ) (told : Decision) (is-quiet : quiet ≡ isQuiet s e)
+    (is-run : run ≡ runAfter quiet (s .quiet)) (is-told : told ≡ decision quiet (s .quiet)) where
+  decided : (d : Decision) → told ≡ d → period d s e ≡ period (decisionOf s e) s e
+  decided d t = ap (λ (x : Decision). period x s e) (sym t ∙ is-told ∙ ap (λ (q : Bool). decision q (s .quiet)) is-quiet)
+
+  counted : run ≡ runAfter (isQuiet s e) (s .quiet)
+  counted = is-run ∙ ap (λ (q : Bool). runAfter q (s .quiet)) is-quiet
+
+  pub sends :
+      (number : SignallingCount) (windows : List ℕ)
+      → told ≡ Sends
+      → number .0 ≡ onward 7 (s .last .0) 1
+      → windows ≡ windowsAfter (s .windows) (e .samples)
+      → goingOut (e .alarm) (stateOf e run number windows) ≡ period (decisionOf s e) s e
+  unfolding period
+  sends number windows t n w =
+      let r = counted in
+      rw (r, w)
+      (ap (λ (k : ℕ). goingOut (e .alarm) (stateOf e (runAfter (isQuiet s e) (s .quiet)) (record { 0 = k }) (windowsAfter (s .windows) (e .samples)))) n)
+      ∙ decided Sends t
+
+  pub repeats : told ≡ Repeats → goingOut (e .alarm) (stateOf e run (s .last) (s .windows)) ≡ period (decisionOf s e) s e
+  unfolding period
+  repeats t = ap (λ (r : ℕ). goingOut (e .alarm) (stateOf e r (s .last) (s .windows))) counted ∙ decided Repeats t
+
+  pub rests : told ≡ Rests → nothingDue sound (stateOf e run (s .last) (s .windows)) ≡ period (decisionOf s e) s e
+  unfolding period
+  rests t = ap (λ (r : ℕ). nothingDue sound (stateOf e r (s .last) (s .windows))) counted ∙ decided Rests t
+
+module _ (s : Sender) (e : Entry) where
+  pub taken : allAllowed 10 0 (e .samples) ≡ true → sent s e ≡ period (decisionOf s e) s e
+  unfolding sent
+  taken h = simp h
+
+  pub refused : allAllowed 10 0 (e .samples) ≡ false → sent s e ≡ nothingDue valueOutOfRange s
+  unfolding sent
+  refused h = simp h

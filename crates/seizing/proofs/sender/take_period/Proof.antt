@@ -1,0 +1,94 @@
+-- `seizing::sender::take_period` meets its contract.
+use mathlib.Core.Path.{_∙_}
+use Rattle.seizing.proofs.SenderCases as cases
+use borrow.Author.Needs.{needs}
+use Rattle.seizing.proofs.sender.take_period.Statement.{statement}
+use Rattle.seizing.proofs.sender.take_period.Tie as tie
+
+array-read-before : tie.Need-array-read-before
+array-read-before c = search needs
+
+all-equal-requires : tie.Need-all-equal-requires
+all-equal-requires c κs = search needs
+
+run-after-requires : tie.Need-run-after-requires
+run-after-requires c κs = search needs
+
+decide-requires : tie.Need-decide-requires
+decide-requires c κs = search needs
+
+enum-told : tie.Need-enum-told
+enum-told c = search needs
+
+next-requires : tie.Need-next-requires
+next-requires c κs = search needs
+
+windows-after-requires : tie.Need-windows-after-requires
+windows-after-requires c κs = search needs
+
+go-out-requires : tie.Need-go-out-requires
+go-out-requires c κs = search needs
+
+enum-told-2 : tie.Need-enum-told-2
+enum-told-2 c = search needs
+
+go-out-requires-2 : tie.Need-go-out-requires-2
+go-out-requires-2 c κs = search needs
+
+enum-told-3 : tie.Need-enum-told-3
+enum-told-3 c = search needs
+
+nothing-due-requires : tie.Need-nothing-due-requires
+nothing-due-requires c κs = search needs
+
+returns : tie.Need-returns
+returns c =
+    let a = c .before .before .before .before .before .before .before .before .before .before .before .args in
+    let quiet = c .before .before .before .before .before .before .before .all-equal in
+    let run = c .before .before .before .before .before .before .run-after in
+    let told = c .before .before .before .before .before .decide in
+    c .go-out .ensures
+    ∙ cases.sends (a .sender) (a .entry) (quiet .result) (run .result) (told .result) (quiet .ensures) (run .ensures) (told .ensures) _ _
+    (c .before .before .before .enum-told .given .1)
+    (c .before .before .next .ensures)
+    (c .before .windows-after .ensures)
+
+returns-2 : tie.Need-returns-2
+returns-2 c =
+    let a = c .before .before .before .before .before .before .before .before .before .args in
+    let quiet = c .before .before .before .before .before .all-equal in
+    let run = c .before .before .before .before .run-after in
+    let told = c .before .before .before .decide in
+    c .go-out2 .ensures
+    ∙ cases.repeats (a .sender) (a .entry) (quiet .result) (run .result) (told .result) (quiet .ensures) (run .ensures) (told .ensures)
+    (c .before .enum-told2 .given .1)
+
+returns-3 : tie.Need-returns-3
+returns-3 c =
+    let a = c .before .before .before .before .before .before .before .before .before .args in
+    let quiet = c .before .before .before .before .before .all-equal in
+    let run = c .before .before .before .before .run-after in
+    let told = c .before .before .before .decide in
+    c .nothing-due .ensures
+    ∙ cases.rests (a .sender) (a .entry) (quiet .result) (run .result) (told .result) (quiet .ensures) (run .ensures) (told .ensures)
+    (c .before .enum-told3 .given .1)
+
+pub take-period-spec : {M : Type 1} → statement M
+take-period-spec =
+    tie.close
+    (tie.spec
+    array-read-before
+    all-equal-requires
+    run-after-requires
+    decide-requires
+    enum-told
+    next-requires
+    windows-after-requires
+    go-out-requires
+    enum-told-2
+    go-out-requires-2
+    enum-told-3
+    nothing-due-requires
+    returns
+    returns-2
+    returns-3)

@@ -1,0 +1,161 @@
+// The digit sender and the two digit receivers.
+use dialling::receiver::Receiver;
+use dialling::sender::Entry;
+use dialling::sender::Sender;
+use dialling::sender::Sending;
+use digits::layout::Window;
+
+pub struct Dialling {
+    sender: Sender,
+    first: Receiver,
+    second: Receiver,
+}
+
+// As document 01 has them at their start.
+pub fn start_state() -> Dialling {
+    Dialling {
+        sender: dialling::sender::fresh(),
+        first: dialling::receiver::fresh(),
+        second: dialling::receiver::fresh(),
+    }
+}
+
+// A signed octet: from 128 on it stands for 256 less.
+fn signed(octet: u8) -> i8 {
+    if octet < 128 {
+        return octet as i8;
+    }
+    let magnitude = 255 - octet + 1;
+    (0 - (magnitude as i16)) as i8
+}
+
+// `digit=`: who, type, code, edge, level.
+pub fn digit(dialling: Dialling, octets: &[u8]) -> Dialling {
+    let sender = dialling.sender;
+    let taken = dialling::sender::send(
+        sender,
+        Entry {
+            on: octets::octet(octets, 1) == 1,
+            code: octets::octet(octets, 2),
+            edge: octets::octet(octets, 3),
+            level: signed(octets::octet(octets, 4)),
+        },
+    );
+    let after = taken.sender;
+    let first = dialling.first;
+    let second = dialling.second;
+    let now = Dialling {
+        sender: after,
+        first,
+        second,
+    };
+    let answer = taken.answer;
+    match answer {
+        Sending::BadEntry(number) => crate::print::number(b"refused=", number as u64),
+        Sending::Unsent => crate::print::name(b"unsent="),
+        Sending::Sent(sent) => {
+            let mut payload = [0u8; 8];
+            // It is written: crates/dialling/specs/SenderClaims.antt.
+            digits::layout::put_digits(&mut payload, 0, sent);
+            crate::print::octets(b"sent=", &payload);
+            return hear(now, octets, &payload);
+        }
+    }
+    now
+}
+
+// A window as it is printed: type, edge, code.
+fn window(name: &[u8], window: Window) {
+    let kind: u8 = if window.on { 1 } else { 0 };
+    crate::print::octets(name, &[kind, window.edge, window.code]);
+}
+
+// The carried periods.
+fn carried(count: u8, periods: [Window; 3]) {
+    crate::print::number(b"carried=", count as u64);
+    if 0 < count {
+        window(b"period=", periods[0]);
+    }
+    if 1 < count {
+        window(b"period=", periods[1]);
+    }
+    if 2 < count {
+        window(b"period=", periods[2]);
+    }
+}
+
+// One receiver gets a payload.
+fn receive(number: u64, receiver: Receiver, payload: &[u8]) -> Receiver {
+    crate::print::number(b"receiver=", number);
+    let received = dialling::receiver::receive(receiver, payload);
+    let after = received.receiver;
+    if received.number != refusal::SOUND {
+        crate::print::number(b"refused=", received.number as u64);
+        return after;
+    }
+    crate::print::number(b"filled=", received.fills as u64);
+    let fill = received.fill;
+    window(b"with=", fill);
+    let periods = received.periods;
+    carried(received.carried, periods);
+    after
+}
+
+// The receivers that the line names get a payload.
+fn hear(dialling: Dialling, octets: &[u8], payload: &[u8]) -> Dialling {
+    let mut first = dialling.first;
+    let mut second = dialling.second;
+    if crate::line::first_gets(octets) {
+        first = receive(1, first, payload);
+    }
+    if crate::line::second_gets(octets) {
+        second = receive(2, second, payload);
+    }
+    let sender = dialling.sender;
+    Dialling {
+        sender,
+        first,
+        second,
+    }
+}
+
+// `digits=`: who, and a payload from elsewhere.
+pub fn digits(dialling: Dialling, octets: &[u8]) -> Dialling {
+    hear(dialling, octets, crate::line::behind(octets, 1))
+}
+
+// `voice=`: who.
+pub fn voice(dialling: Dialling, octets: &[u8]) -> Dialling {
+    let mut first = dialling.first;
+    let mut second = dialling.second;
+    if crate::line::first_gets(octets) {
+        first = dialling::receiver::hear_voice(first);
+    }
+    if crate::line::second_gets(octets) {
+        second = dialling::receiver::hear_voice(second);
+    }
+    let sender = dialling.sender;
+    Dialling {
+        sender,
+        first,
+        second,
+    }
+}
+
+// `fresh=`: who.
+pub fn fresh(dialling: Dialling, octets: &[u8]) -> Dialling {
+    let mut first = dialling.first;
+    let mut second = dialling.second;
+    if crate::line::first_gets(octets) {
+        first = dialling::receiver::fresh();
+    }
+    if crate::line::second_gets(octets) {
+        second = dialling::receiver::fresh();
+    }
+    let sender = dialling.sender;
+    Dialling {
+        sender,
+        first,
+        second,
+    }
+}
