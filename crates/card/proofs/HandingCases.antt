@@ -2,6 +2,7 @@
 use Prim.Native.Nat.{ℕ, _+_, _-_, _<_, _≤_}
 use mathlib.Core.Path.{_≡_, refl, sym, ap, subst, _∙_}
 use mathlib.Core.List.{List, []}
+use mathlib.Core.Bool.{false, cond}
 use mathlib.Core.Logic.{⊎-elim}
 use native.Mathlib.Omega.{arith}
 use borrow.Author.Tests.{eq-eqb, ne-eqb}
@@ -26,6 +27,13 @@ between s start end = take (end - start) (drop start s)
 pub cut : (s : List ℕ) (start len : ℕ) → between s start (start + len) ≡ part s start len
 cut s start len = let n : start + len - start ≡ len = omega arith in ap (λ (m : ℕ). take m (drop start s)) n
 
+module _ (found : Found) (cid : ℕ) (s : List ℕ) (sub : SubFrame) where
+  not-served : (h : Handed) → serves found cid s sub ≡ false → afterSub found cid s h sub ≡ h
+  unfolding afterSub
+  not-served FromSilence n = ap (λ b. cond b (FromFrame (sub .start) (sub .len)) FromSilence) n
+  not-served (FromFrame start len) n = refl
+  not-served (NotHanded number) n = refl
+
 module _ (found : Found) (cid : ℕ) (s : List ℕ) (sub : SubFrame) {stood : Handed} where
   pub found-stays : (start len : ℕ) → stood ≡ FromFrame start len → afterSub found cid s stood sub ≡ FromFrame start len
   unfolding afterSub
@@ -35,27 +43,26 @@ module _ (found : Found) (cid : ℕ) (s : List ℕ) (sub : SubFrame) {stood : Ha
   unfolding afterSub
   refused-stays number e = ap (λ h. afterSub found cid s h sub) e
 
-  module _ (e : stood ≡ FromSilence) where
-    pub other-cid : (sub .cid ≡ cid → ⊥) → afterSub found cid s stood sub ≡ FromSilence
-    unfolding afterSub serves
-    other-cid h = rw e (simp (ne-eqb (sub .cid) cid h))
+  pub other-cid : (sub .cid ≡ cid → ⊥) → afterSub found cid s stood sub ≡ stood
+  unfolding serves
+  other-cid h = not-served found cid s sub stood (simp (ne-eqb (sub .cid) cid h))
 
-    module _ (here : sub .cid ≡ cid) where
-      pub other-type : (sub .ptype ≡ 0 → ⊥) → afterSub found cid s stood sub ≡ FromSilence
+  module _ (here : sub .cid ≡ cid) where
+    pub other-type : (sub .ptype ≡ 0 → ⊥) → afterSub found cid s stood sub ≡ stood
+    unfolding serves
+    other-type h = not-served found cid s sub stood (simp (eq-eqb (sub .cid) cid here, ne-eqb (sub .ptype) 0 h))
+
+    module _ (type-0 : sub .ptype ≡ 0) (e : stood ≡ FromSilence) {number : ℕ} (told : number ≡ numberOf (payloadRead found 0 (between s (sub .start) (endOf sub)))) where
+      is : number ≡ numberOf (payloadRead found 0 (part s (sub .start) (sub .len)))
+      is = told ∙ ap (λ p. numberOf (payloadRead found 0 p)) (cut s (sub .start) (sub .len))
+
+      pub passes : number ≡ sound → afterSub found cid s stood sub ≡ FromFrame (sub .start) (sub .len)
       unfolding afterSub serves
-      other-type h = rw e (simp (eq-eqb (sub .cid) cid here, ne-eqb (sub .ptype) 0 h))
+      passes h = rw e (simp (eq-eqb (sub .cid) cid here, eq-eqb (sub .ptype) 0 type-0, eq-eqb _ sound (sym is ∙ h)))
 
-      module _ (type-0 : sub .ptype ≡ 0) {number : ℕ} (told : number ≡ numberOf (payloadRead found 0 (between s (sub .start) (endOf sub)))) where
-        is : number ≡ numberOf (payloadRead found 0 (part s (sub .start) (sub .len)))
-        is = told ∙ ap (λ p. numberOf (payloadRead found 0 p)) (cut s (sub .start) (sub .len))
-
-        pub passes : number ≡ sound → afterSub found cid s stood sub ≡ FromFrame (sub .start) (sub .len)
-        unfolding afterSub serves
-        passes h = rw e (simp (eq-eqb (sub .cid) cid here, eq-eqb (sub .ptype) 0 type-0, eq-eqb _ sound (sym is ∙ h)))
-
-        pub fails : (number ≡ sound → ⊥) → afterSub found cid s stood sub ≡ FromSilence
-        unfolding afterSub serves
-        fails h = rw e (simp (eq-eqb (sub .cid) cid here, eq-eqb (sub .ptype) 0 type-0, ne-eqb _ sound (λ z. h (is ∙ z))))
+      pub fails : (number ≡ sound → ⊥) → afterSub found cid s stood sub ≡ FromSilence
+      unfolding afterSub serves
+      fails h = rw e (simp (eq-eqb (sub .cid) cid here, eq-eqb (sub .ptype) 0 type-0, ne-eqb _ sound (λ z. h (is ∙ z))))
 
 -- The sub-frames before a fault are not looked at.
 module _ (found : Found) (cid : ℕ) (s : List ℕ) where

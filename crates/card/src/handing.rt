@@ -57,16 +57,16 @@ fn after_sub(frame: &[u8], found: Found, cid: u8, stood: Handed, sub: SubFrame) 
     requires { ⌜ endOf sub ≤ length (now frame) ⌝ }
     ensures { λ r. ⌜ r ≡ afterSub found cid (now (frame .entry)) stood sub ⌝ }
 {
+    if sub.cid != cid {
+        return stood;
+    }
+    if sub.ptype != 0 {
+        return stood;
+    }
     match stood {
         Handed::FromFrame { start, len } => Handed::FromFrame { start, len },
         Handed::NotHanded(number) => Handed::NotHanded(number),
         Handed::FromSilence => {
-            if sub.cid != cid {
-                return Handed::FromSilence;
-            }
-            if sub.ptype != 0 {
-                return Handed::FromSilence;
-            }
             let start = sub.start;
             let len = sub.len;
             let end = start + len;

@@ -2,6 +2,7 @@
 use mathlib.Core.Path.{_≡_, refl, sym, _∙_}
 use denote.Ref.{now}
 use Rattle.settled.specs.Settled.{OneAnswer, nothing}
+use Rattle.frame.specs.declared.opening.Checked.{Checked}
 use Rattle.frame.proofs.header.header_at.Kinds as header-header-at-kinds
 use Rattle.frame.proofs.header.header_at.Reads as header-header-at-reads
 use Rattle.frame.proofs.joining.header_size.Kinds as joining-header-size-kinds
@@ -22,12 +23,14 @@ joining-header-size κs a x y s t p q = (p ∙ sym q, refl)
 pub joining-put-header : OneAnswer 1 joining-put-header-kinds.ps joining-put-header-kinds.r (λ κs s. now (s .0)) joining-put-header-reads.Post
 joining-put-header κs a x y s t p q = (p .0 ∙ sym (q .0), cc)
 
+-- three numbers make a whole answer of `check`
+same : (x y : Checked) → x .number ≡ y .number → x .at ≡ y .at → x .count ≡ y .count → x ≡ y
+same x y number at count =
+    let e : _≡_ {A = Checked} (record { number = x .number; at = x .at; count = x .count }) (record { number = y .number; at = y .at; count = y .count }) = cc in
+    e
+
 pub opening-check : OneAnswer 1 opening-check-kinds.ps opening-check-kinds.r nothing opening-check-reads.Post
-opening-check κs a x y s t p q =
-    let number = p .0 ∙ sym (q .0) in
-    let at = p .1 .0 ∙ sym (q .1 .0) in
-    let count = p .1 .1 ∙ sym (q .1 .1) in
-    (cc, refl)
+opening-check κs a x y s t p q = (same x y (p .0 ∙ sym (q .0)) (p .1 .0 ∙ sym (q .1 .0)) (p .1 .1 ∙ sym (q .1 .1)), refl)
 
 pub opening-open : OneAnswer 1 opening-open-kinds.ps opening-open-kinds.r nothing opening-open-reads.Post
 opening-open κs a x y s t p q = (p ∙ sym q, refl)
