@@ -4,6 +4,7 @@ pub mod Appending
 pub mod HexTable
 pub mod Decoding
 pub mod LineCases
+pub mod Ordinary
 pub mod Ends
 pub mod Inside
 pub mod Listings

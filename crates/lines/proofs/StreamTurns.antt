@@ -18,7 +18,7 @@ use Rattle.lines.specs.Listing.{lineListing}
 use Rattle.lines.specs.declared.pieces.Kept.{Kept}
 use Rattle.lines.specs.Pieces.{lineSize}
 use Rattle.lines.specs.Pieces.{keeping as keepAnswer}
-use Rattle.lines.specs.Stream.{nextNumber, Walk, stopped, before, keptOf, haveOf, wholeListing, walk, answer, lastListed}
+use Rattle.lines.specs.Stream.{nextNumber, Walk, stopped, before, keptOf, haveOf, wholeListing, nextListing, keptBehind, walk, Next, answer, lastListed}
 use Rattle.lines.proofs.Appending as appending
 use Rattle.lines.proofs.Ends as ends
 use Rattle.lines.proofs.Keeping as keeping
@@ -87,9 +87,9 @@ taken-within zero room table used n have kept piece = omega arith
 taken-within (suc more) room table used n have kept [] = omega arith
 taken-within (suc more) room table used n have kept (x ∷ xs) =
     taken-go (ltb (room - used) 6709) (hasLf (x ∷ xs)) (lineSize (x ∷ xs)) (length (x ∷ xs)) (stopped n have kept) _ _ (omega arith)
-    (later (taken-within more room table (used + length (wholeListing table n have kept (x ∷ xs))) (nextNumber n) 0 (keptOf have kept (x ∷ xs)) (drop (lineSize (x ∷ xs)) (x ∷ xs))))
+    (later (taken-within more room table (used + length (nextListing table n have kept (x ∷ xs))) (nextNumber n) 0 (keptBehind have kept (x ∷ xs)) (drop (lineSize (x ∷ xs)) (x ∷ xs))))
     (later (taken-within more room table used n (haveOf have kept (x ∷ xs)) (keptOf have kept (x ∷ xs)) (drop (lineSize (x ∷ xs)) (x ∷ xs))))
-    (wholeListing table n have kept (x ∷ xs))
+    (nextListing table n have kept (x ∷ xs))
   where
     later : {k : ℕ} → k ≤ length (drop (lineSize (x ∷ xs)) (x ∷ xs)) → lineSize (x ∷ xs) + k ≤ length (x ∷ xs)
     later h = omega (arith, length-drop (lineSize (x ∷ xs)) (x ∷ xs), ends.size-within (x ∷ xs))
@@ -101,8 +101,9 @@ module _ (more room : ℕ) (table : List ℕ) (used n have : ℕ) (kept : List �
   walk-short [] h = refl
   walk-short (x ∷ xs) h = simp (lt-ltb (room - used) 6709 h)
 
-  walk-whole :
+  walk-begun :
       (piece : List ℕ)
+      → (have ≡ 0 → ⊥)
       → 0 < length piece
       → 6709 ≤ room - used
       → hasLf piece ≡ true
@@ -110,8 +111,20 @@ module _ (more room : ℕ) (table : List ℕ) (used n have : ℕ) (kept : List �
       ≡ before (wholeListing table n have kept piece) (lineSize piece)
       (walk more room table (used + length (wholeListing table n have kept piece)) (nextNumber n) 0 (keptOf have kept piece) (drop (lineSize piece) piece))
   unfolding walk
-  walk-whole [] some h lf = absurd (omega arith)
-  walk-whole (x ∷ xs) some h lf = simp (le-ltb (room - used) 6709 h, lf)
+  walk-begun [] begun some h lf = absurd (omega arith)
+  walk-begun (x ∷ xs) begun some h lf = simp (le-ltb (room - used) 6709 h, lf, ne-eqb have 0 begun)
+
+  walk-fresh :
+      (piece : List ℕ)
+      → 0 < length piece
+      → 6709 ≤ room - used
+      → hasLf piece ≡ true
+      → walk (suc more) room table used n 0 kept piece
+      ≡ before (lineListing n table (take (lineSize piece) piece)) (lineSize piece)
+      (walk more room table (used + length (lineListing n table (take (lineSize piece) piece))) (nextNumber n) 0 kept (drop (lineSize piece) piece))
+  unfolding walk
+  walk-fresh [] some h lf = absurd (omega arith)
+  walk-fresh (x ∷ xs) some h lf = simp (le-ltb (room - used) 6709 h, lf)
 
   walk-part :
       (piece : List ℕ)
@@ -164,105 +177,123 @@ module _ {table out₀ piece : List ℕ} {whole : Walk} {kept out : List ℕ} {h
     pub room-left : 6709 ≤ length out - used → used + 6709 ≤ length out
     room-left h = omega (arith, same-length, going .room)
 
-    module _ (fits : 6709 ≤ length out - used) where
-      enough-room : 6709 ≤ length out₀ - used
-      enough-room = omega (arith, same-length)
+    -- one line more
+    pub turn :
+        (r : Listed) (now after : List ℕ)
+        → 6709 ≤ length out - used
+        → Next table have number used kept (take (length piece - at) (drop at piece)) out r now after
+        → Going table out₀ piece whole now after (r .have) (r .number) (r .used) (at + r .taken)
+    turn r now after fits given =
+        let next : Next table have number used kept (drop at piece) out r now after = rw (values.rest-is piece at) at given in
+        let size : length out ≡ length out₀ = same-length in
+        let on : walk (suc (going .more - 1)) (length out₀) table used number have kept (drop at piece)
+        ≡ before (next .text) (r .taken) (walk (going .more - 1) (length out₀) table (r .used) (r .number) (r .have) now (drop (r .taken) (drop at piece))) =
+        rw size at (next .walks (going .more - 1))
+        in
+        let both = appending.then (going .stands) (next .stands) (omega (arith, size, going .room)) in
+        record {
+          more = going .more - 1;
+          enough = omega (arith, going .enough, next .some);
+          within = omega (arith, next .within, length-drop at piece);
+          text = going .text ++ next .text;
+          walks =
+              going .walks ∙ ap (before (going .text) at) (walks-on _ on) ∙ before-twice (going .text) (next .text) at (r .taken) _
+              ∙ ap
+              (λ (l : List ℕ). before (going .text ++ next .text) (at + r .taken)
+              (walk (going .more - 1) (length out₀) table (r .used) (r .number) (r .have) now l))
+              (drop-drop (r .taken) at piece);
+          stands = record { ends = both .ends; holds = both .holds; size = omega (arith, both .ends) };
+          room = omega (arith, both .ends, both .size, size, going .room);
+        }
 
-      next-place : drop (lineSize (drop at piece)) (drop at piece) ≡ drop (at + lineSize (drop at piece)) piece
-      next-place = drop-drop (lineSize (drop at piece)) at piece
+pub rest-some : (piece : List ℕ) (at : ℕ) → at < length piece → 0 < length (take (length piece - at) (drop at piece))
+rest-some piece at there = rw (values.rest-is piece at) (omega (arith, length-drop at piece))
 
-      inside : at + lineSize (drop at piece) ≤ length piece
-      inside = omega (arith, ends.size-within (drop at piece), length-drop at piece)
+-- one line, from what the code finds of it
+module _ (table : List ℕ) (number used : ℕ) (kept piece out : List ℕ) (some : 0 < length piece) (room : used + 6709 ≤ length out) where
+  enough : 6709 ≤ length out - used
+  enough = omega arith
 
-      fewer : length piece - (at + lineSize (drop at piece)) ≤ going .more - 1
-      fewer = omega (arith, going .enough, ends.size-some (drop at piece) some)
+  pub fresh :
+      (size next follows : ℕ) (after : List ℕ)
+      → hasLf piece ≡ true
+      → lineSize piece ≡ size
+      → Appended out used (lineListing number table (take size piece)) 6709 after next
+      → follows ≡ nextNumber number
+      → Next table 0 number used kept piece out (record { taken = size; used = next; have = 0; number = follows }) kept after
+  fresh size next follows after lf is put f =
+      rw (← is, f)
+      record {
+        text = lineListing number table (take (lineSize piece) piece);
+        walks = λ more.
+            walk-fresh more (length out) table used number 0 kept piece some enough lf
+            ∙ ap
+            (λ (k : ℕ). before (lineListing number table (take (lineSize piece) piece)) (lineSize piece)
+            (walk more (length out) table k (nextNumber number) 0 kept (drop (lineSize piece) piece)))
+            (sym (rw (← is) at put .ends));
+        stands = rw (← is) at put;
+        some = ends.size-some piece some;
+        within = ends.size-within piece;
+      }
 
-      -- the line goes on behind the piece
-      pub part :
-          hasLf (drop at piece) ≡ false
-          → Going table out₀ piece whole (keptOf have kept (drop at piece)) out (haveOf have kept (drop at piece)) number used (at + lineSize (drop at piece))
-      part lf =
-          let on = walk-part (going .more - 1) (length out₀) table used number have kept (drop at piece) some enough-room lf in
-          record {
-            more = going .more - 1;
-            enough = fewer;
-            within = inside;
-            text = going .text ++ [];
-            walks =
-                going .walks ∙ ap (before (going .text) at) (walks-on _ on)
-                ∙ before-twice (going .text) [] at (lineSize (drop at piece)) _
-                ∙ ap
-                (λ (l : List ℕ). before (going .text ++ []) (at + lineSize (drop at piece))
-                (walk (going .more - 1) (length out₀) table used number (haveOf have kept (drop at piece)) (keptOf have kept (drop at piece)) l))
-                next-place;
-            stands = appending.reads (going .stands) (sym (append-nil (going .text)));
-            room = going .room;
-          }
+  -- from what `keep` answers
+  module _ (have : ℕ) (line : Kept) (now : List ℕ) (says : line ≡ keepAnswer (length kept) have piece) (holds : now ≡ keptOf have kept piece) where
+    taken-is : line .taken ≡ lineSize piece
+    taken-is = ap (λ (k : Kept). k .taken) says
 
-      -- the line is whole, and is listed
-      module _ (lf : hasLf (drop at piece) ≡ true) where
-        pub listed :
-            (after : List ℕ) (next : ℕ)
-            → Appended out used (wholeListing table number have kept (drop at piece)) 6709 after next
-            → Going table out₀ piece whole (keptOf have kept (drop at piece)) after 0 (nextNumber number) next (at + lineSize (drop at piece))
-        listed after next put =
-            let on = walk-whole (going .more - 1) (length out₀) table used number have kept (drop at piece) some enough-room lf in
-            let both = appending.then (going .stands) put (omega (arith, enough-room, going .room)) in
-            record {
-              more = going .more - 1;
-              enough = fewer;
-              within = inside;
-              text = going .text ++ wholeListing table number have kept (drop at piece);
-              walks =
-                  going .walks ∙ ap (before (going .text) at) (walks-on _ on)
-                  ∙ before-twice (going .text) (wholeListing table number have kept (drop at piece)) at (lineSize (drop at piece)) _
-                  ∙ ap
-                  (λ (l : List ℕ). before (going .text ++ wholeListing table number have kept (drop at piece)) (at + lineSize (drop at piece))
-                  (walk (going .more - 1) (length out₀) table (used + length (wholeListing table number have kept (drop at piece))) (nextNumber number) 0 (keptOf have kept (drop at piece)) l))
-                  next-place
-                  ∙ ap
-                  (λ (k : ℕ). before (going .text ++ wholeListing table number have kept (drop at piece)) (at + lineSize (drop at piece))
-                  (walk (going .more - 1) (length out₀) table k (nextNumber number) 0 (keptOf have kept (drop at piece)) (drop (at + lineSize (drop at piece)) piece)))
-                  (sym (put .ends));
-              stands = record { ends = both .ends; holds = both .holds; size = omega (arith, both .ends) };
-              room = omega (arith, both .ends, both .size, enough-room, going .room);
-            }
+    have-is : line .have ≡ haveOf have kept piece
+    have-is = ap (λ (k : Kept). k .have) says
 
-      -- the same, from what `keep` answers for the rest of the piece
-      module _ (line : Kept) (now : List ℕ) (says : line ≡ keepAnswer (length kept) have (take (length piece - at) (drop at piece))) (holds : now ≡ keptOf have kept (take (length piece - at) (drop at piece))) where
-        taken-is : line .taken ≡ lineSize (drop at piece)
-        taken-is = ap (λ (k : Kept). k .taken) says ∙ ap lineSize (values.rest-is piece at)
+    whole-is : line .whole ≡ hasLf piece
+    whole-is = ap (λ (k : Kept). k .whole) says
 
-        have-is : line .have ≡ haveOf have kept (drop at piece)
-        have-is = ap (λ (k : Kept). k .have) says ∙ ap (haveOf have kept) (values.rest-is piece at)
+    -- the line goes on behind the piece
+    pub part :
+        hasLf piece ≡ false
+        → Next table have number used kept piece out (record { taken = line .taken; used = used; have = line .have; number = number }) now out
+    part lf =
+        rw (taken-is, have-is, holds)
+        record {
+          text = [];
+          walks = λ more. walk-part more (length out) table used number have kept piece some enough lf;
+          stands = appending.within (appending.none out used) 6709 (omega arith);
+          some = ends.size-some piece some;
+          within = ends.size-within piece;
+        }
 
-        whole-is : line .whole ≡ hasLf (drop at piece)
-        whole-is = ap (λ (k : Kept). k .whole) says ∙ ap hasLf (values.rest-is piece at)
+    pub goes-on :
+        line .whole ≡ false
+        → Next table have number used kept piece out (record { taken = line .taken; used = used; have = line .have; number = number }) now out
+    goes-on h = part (sym whole-is ∙ h)
 
-        now-is : now ≡ keptOf have kept (drop at piece)
-        now-is = holds ∙ ap (keptOf have kept) (values.rest-is piece at)
-
-        pub goes-on : at < at + line .taken
-        goes-on = omega (arith, taken-is, ends.size-some (drop at piece) some)
-
-        pub goes-within : at + line .taken ≤ length piece
-        goes-within = omega (arith, taken-is, inside)
-
-        pub part-turn : line .whole ≡ false → Going table out₀ piece whole now out (line .have) number used (at + line .taken)
-        part-turn h = rw (now-is, have-is, taken-is) (part (sym whole-is ∙ h))
-
-        pub whole-turn :
-            (end next follows : ℕ) (after : List ℕ)
-            → line .whole ≡ true
-            → end ≡ min (line .have) (length now)
-            → Appended out used (lineListing number table (take end now)) 6709 after next
-            → follows ≡ nextNumber number
-            → Going table out₀ piece whole now after 0 follows next (at + line .taken)
-        whole-turn end next follows after h e put f =
-            let cut : take end now ≡ take (line .have) now = ap (λ (k : ℕ). take k now) e ∙ keeping.take-least (line .have) now in
-            let same : take (line .have) now ≡ take (haveOf have kept (drop at piece)) (keptOf have kept (drop at piece)) = rw (have-is, now-is) in
-            let text = ap (lineListing number table) (cut ∙ same) in
-            rw (now-is, f, taken-is) (listed (sym whole-is ∙ h) after next (appending.reads put text))
+    -- the line is whole now
+    pub begun :
+        (have ≡ 0 → ⊥)
+        → (end next follows : ℕ) (after : List ℕ)
+        → line .whole ≡ true
+        → end ≡ min (line .have) (length now)
+        → Appended out used (lineListing number table (take end now)) 6709 after next
+        → follows ≡ nextNumber number
+        → Next table have number used kept piece out (record { taken = line .taken; used = next; have = 0; number = follows }) now after
+    begun kept-some end next follows after h e put f =
+        let cut : take end now ≡ take (line .have) now = ap (λ (k : ℕ). take k now) e ∙ keeping.take-least (line .have) now in
+        let same : take (line .have) now ≡ take (haveOf have kept piece) (keptOf have kept piece) = rw (have-is, holds) in
+        let text : Appended out used (wholeListing table number have kept piece) 6709 after next =
+        appending.reads put (ap (lineListing number table) (cut ∙ same))
+        in
+        rw (taken-is, f, holds)
+        record {
+          text = wholeListing table number have kept piece;
+          walks = λ more.
+              walk-begun more (length out) table used number have kept piece kept-some some enough (sym whole-is ∙ h)
+              ∙ ap
+              (λ (k : ℕ). before (wholeListing table number have kept piece) (lineSize piece)
+              (walk more (length out) table k (nextNumber number) 0 (keptOf have kept piece) (drop (lineSize piece) piece)))
+              (sym (text .ends));
+          stands = text;
+          some = ends.size-some piece some;
+          within = ends.size-within piece;
+        }
 
 -- the last line
 module _ (room : ℕ) (table : List ℕ) (begun : Begun) (kept out : List ℕ) where

@@ -1,6 +1,7 @@
 -- A recording listed piece by piece: lines are kept until they are whole, each is listed under its number, and every line takes
 -- a number, refused or not (document 01, "Listing program").
-use Prim.Native.Nat.{ℕ, zero, suc, _+_, _-_}
+use Prim.Native.Nat.{ℕ, zero, suc, _+_, _-_, _<_, _≤_}
+use mathlib.Core.Path.{_≡_}
 use mathlib.Core.List.{List, [], _∷_, _++_}
 use mathlib.Core.Bool.{cond}
 use lib.Dec.{ltb, eqb}
@@ -9,6 +10,7 @@ use Rattle.octets.specs.Room.{written}
 use Rattle.record.specs.Value.{hasLf}
 use Rattle.lines.specs.declared.stream.Begun.{Begun}
 use Rattle.lines.specs.declared.stream.Listed.{Listed}
+use Rattle.lines.specs.Field.{Appended}
 use Rattle.lines.specs.Listing.{lineListing, mostListed}
 use Rattle.lines.specs.Pieces.{lineSize, toKeep}
 
@@ -40,9 +42,17 @@ keptOf have kept piece = written kept have (toKeep (length kept) have piece)
 abbrev pub haveOf : ℕ → List ℕ → List ℕ → ℕ
 haveOf have kept piece = have + length (toKeep (length kept) have piece)
 
--- the listing of a line that is whole with what a piece has of it
+-- the listing of a line that is kept, and whole with what a piece has of it
 abbrev pub wholeListing : List ℕ → ℕ → ℕ → List ℕ → List ℕ → List ℕ
 wholeListing table n have kept piece = lineListing n table (take (haveOf have kept piece) (keptOf have kept piece))
+
+-- the listing of a whole line, and the room for a line behind it: where nothing is kept, the line is listed from the piece
+abbrev pub nextListing : List ℕ → ℕ → ℕ → List ℕ → List ℕ → List ℕ
+nextListing table n have kept piece =
+    cond (eqb have 0) (lineListing n table (take (lineSize piece) piece)) (wholeListing table n have kept piece)
+
+abbrev pub keptBehind : ℕ → List ℕ → List ℕ → List ℕ
+keptBehind have kept piece = cond (eqb have 0) kept (keptOf have kept piece)
 
 -- The lines of a piece, with `used` of `room` octets listed already: one after the other, as long as the room is there for a
 -- listing. Each has an octet, so that a first number not below the octets is enough.
@@ -52,11 +62,22 @@ walk (suc more) room table used n have kept [] = stopped n have kept
 walk (suc more) room table used n have kept (x ∷ xs) =
     let piece = x ∷ xs in
     let rest = drop (lineSize piece) piece in
-    let text = wholeListing table n have kept piece in
+    let text = nextListing table n have kept piece in
     cond (ltb (room - used) mostListed) (stopped n have kept)
     (cond (hasLf piece)
-    (before text (lineSize piece) (walk more room table (used + length text) (nextNumber n) 0 (keptOf have kept piece) rest))
+    (before text (lineSize piece) (walk more room table (used + length text) (nextNumber n) 0 (keptBehind have kept piece) rest))
     (before [] (lineSize piece) (walk more room table used n (haveOf have kept piece) (keptOf have kept piece) rest)))
+
+-- One line of a piece, or what the piece has of it, as `walk` has it: r tells what is taken, listed and kept.
+pub record Next (table : List ℕ) (have number used : ℕ) (kept piece out : List ℕ) (r : Listed) (now after : List ℕ) : Type 0 where
+  pub text : List ℕ
+  pub walks :
+      (more : ℕ)
+      → walk (suc more) (length out) table used number have kept piece
+      ≡ before text (r .taken) (walk more (length out) table (r .used) (r .number) (r .have) now (drop (r .taken) piece))
+  pub stands : Appended out used text mostListed after (r .used)
+  pub some : 0 < r .taken
+  pub within : r .taken ≤ length piece
 
 abbrev pub pieceListed : ℕ → List ℕ → Begun → List ℕ → List ℕ → Walk
 pieceListed room table begun kept piece = walk (length piece) room table 0 (begun .number) (begun .have) kept piece

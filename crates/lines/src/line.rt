@@ -1,10 +1,11 @@
 // A line after the provisioning text (document 01, "Listing program").
 ghost use mathlib.Core.Path.{_≡_};
+ghost use Prim.Native.Nat.{_<_};
 ghost use lib.ListN.{length, take};
 ghost use Rattle.record.specs.Value.{starts};
 ghost use Rattle.lines.specs.Field.{frameKey};
 ghost use Rattle.lines.specs.Hex.{answer, octetsOf, sizeOf};
-ghost use Rattle.lines.specs.Line.{lineRead};
+ghost use Rattle.lines.specs.Line.{lineRead, Ordinary};
 
 const LF: u8 = 10;
 
@@ -55,4 +56,24 @@ pub(crate) fn read_line(line: &[u8], frame: &mut [u8]) -> LineRead
         return LineRead::BadLine(refusal::HEX_MALFORMED);
     }
     LineRead::BadLine(refusal::HEX_MALFORMED)
+}
+
+// Reads an ordinary line that a text starts with: `frame=`, pairs of hex characters, LF. Answers its octets, and 0 where the line is
+// another.
+pub(crate) fn ordinary(s: &[u8], frame: &mut [u8]) -> usize
+    requires { ⌜ length (now frame) ≡ 1600 ⌝ }
+    ensures { λ r. ⌜ (0 < r → Ordinary (now (s .entry)) (now (frame .exit)) r) ⌝ }
+{
+    if !starts_frame(s) {
+        return 0;
+    }
+    let n = crate::hex::pairs(&s[6..], frame);
+    let end = 6 + n * 2;
+    if s.len() <= end {
+        return 0;
+    }
+    if s[end] != LF {
+        return 0;
+    }
+    end + 1
 }

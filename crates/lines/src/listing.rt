@@ -65,7 +65,14 @@ fn put_refused(out: &mut [u8], at: usize, n: u64, number: u8, place: usize) -> u
     crate::field::put_field(out, past_number, b"at=", place as u64)
 }
 
-fn put_frame(out: &mut [u8], at: usize, n: u64, table: &[u16; 256], frame: &[u8]) -> usize
+// A frame, as the frame number n.
+pub(crate) fn put_frame(
+    out: &mut [u8],
+    at: usize,
+    n: u64,
+    table: &[u16; 256],
+    frame: &[u8],
+) -> usize
     requires { ⌜ at + 6709 ≤ length (now out) ⌝ }
     ensures { λ r. ⌜ Appended (now (out .entry)) at (frameListing n (now (table .entry)) (now (frame .entry))) 6709 (now (out .exit)) r ⌝ }
 {

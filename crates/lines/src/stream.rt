@@ -1,10 +1,11 @@
 // A recording listed piece by piece, in fixed memory (document 01, "Listing program").
 use crate::listing::MOST_LISTED;
 ghost use mathlib.Core.Path.{_≡_};
+ghost use Prim.Native.Nat.{_+_, _<_, _≤_};
 ghost use lib.ListN.{length};
 ghost use Rattle.octets.specs.Room.{written};
 ghost use Rattle.lines.specs.Claims.{mostKept};
-ghost use Rattle.lines.specs.Stream.{nextNumber, pieceListed, answer, lastListed};
+ghost use Rattle.lines.specs.Stream.{nextNumber, Next, pieceListed, answer, lastListed};
 
 // The room for the present line: the octets that decide its listing (`StartDecides`), that is `frame=`, 3,200 characters, and
 // one more.
@@ -41,6 +42,110 @@ pub fn after(number: u64) -> u64
     number
 }
 
+// A line of which nothing is kept: an ordinary one is decoded where it stands. What the piece has of one that goes on is kept.
+fn list_fresh(
+    piece: &[u8],
+    number: u64,
+    kept: &mut [u8],
+    table: &[u16; 256],
+    out: &mut [u8],
+    used: usize,
+    frame: &mut [u8],
+) -> Listed
+    requires { ⌜ 0 < length (now piece) ⌝ }
+    requires { ⌜ used + 6709 ≤ length (now out) ⌝ }
+    requires { ⌜ length (now frame) ≡ 1600 ⌝ }
+    ensures { λ r. ⌜ Next (now (table .entry)) 0 number used (now (kept .entry)) (now (piece .entry)) (now (out .entry)) r (now (kept .exit)) (now (out .exit)) ⌝ }
+{
+    let size = crate::line::ordinary(piece, frame);
+    if 0 < size {
+        let octets = (size - 7) / 2;
+        let next = crate::listing::put_frame(out, used, number, table, &frame[..octets]);
+        let follows = after(number);
+        return Listed {
+            taken: size,
+            used: next,
+            have: 0,
+            number: follows,
+        };
+    }
+    let line = crate::pieces::line_end(piece);
+    let end = line.size;
+    if line.whole {
+        let next = crate::listing::put_line(out, used, number, table, &piece[..end]);
+        let follows = after(number);
+        return Listed {
+            taken: end,
+            used: next,
+            have: 0,
+            number: follows,
+        };
+    }
+    let part = crate::pieces::keep(kept, 0, piece);
+    Listed {
+        taken: part.taken,
+        used,
+        have: part.have,
+        number,
+    }
+}
+
+// A line of which some octets are kept.
+fn list_begun(
+    piece: &[u8],
+    have: usize,
+    number: u64,
+    kept: &mut [u8],
+    table: &[u16; 256],
+    out: &mut [u8],
+    used: usize,
+) -> Listed
+    requires { ⌜ (have ≡ 0 → ⊥) ⌝ }
+    requires { ⌜ 0 < length (now piece) ⌝ }
+    requires { ⌜ used + 6709 ≤ length (now out) ⌝ }
+    ensures { λ r. ⌜ Next (now (table .entry)) have number used (now (kept .entry)) (now (piece .entry)) (now (out .entry)) r (now (kept .exit)) (now (out .exit)) ⌝ }
+{
+    let line = crate::pieces::keep(kept, have, piece);
+    if line.whole {
+        let end = crate::pieces::least(line.have, kept.len());
+        let next = crate::listing::put_line(out, used, number, table, &kept[..end]);
+        let follows = after(number);
+        return Listed {
+            taken: line.taken,
+            used: next,
+            have: 0,
+            number: follows,
+        };
+    }
+    Listed {
+        taken: line.taken,
+        used,
+        have: line.have,
+        number,
+    }
+}
+
+fn list_next(
+    piece: &[u8],
+    have: usize,
+    number: u64,
+    kept: &mut [u8],
+    table: &[u16; 256],
+    out: &mut [u8],
+    used: usize,
+    frame: &mut [u8],
+) -> Listed
+    requires { ⌜ 0 < length (now piece) ⌝ }
+    requires { ⌜ used + 6709 ≤ length (now out) ⌝ }
+    requires { ⌜ length (now frame) ≡ 1600 ⌝ }
+    ensures { λ r. ⌜ Next (now (table .entry)) have number used (now (kept .entry)) (now (piece .entry)) (now (out .entry)) r (now (kept .exit)) (now (out .exit)) ⌝ }
+{
+    if have == 0 {
+        return list_fresh(piece, number, kept, table, out, used, frame);
+    }
+    list_begun(piece, have, number, kept, table, out, used)
+}
+
 // Lists the lines of a piece, to its end or to where the room for a listing runs short. What it has of a line that goes on is kept.
 pub fn list_piece(
     piece: &[u8],
@@ -57,6 +162,7 @@ pub fn list_piece(
     let mut number = begun.number;
     let mut used: usize = 0;
     let mut at: usize = 0;
+    let mut frame = [0u8; 1600];
     while at < piece.len() {
         if out.len() - used < MOST_LISTED {
             return Listed {
@@ -66,15 +172,20 @@ pub fn list_piece(
                 number,
             };
         }
-        let line = crate::pieces::keep(kept, have, &piece[at..]);
-        at += line.taken;
-        have = line.have;
-        if line.whole {
-            let end = crate::pieces::least(have, kept.len());
-            used = crate::listing::put_line(out, used, number, table, &kept[..end]);
-            number = after(number);
-            have = 0;
-        }
+        let step = list_next(
+            &piece[at..],
+            have,
+            number,
+            kept,
+            table,
+            out,
+            used,
+            &mut frame,
+        );
+        at += step.taken;
+        used = step.used;
+        have = step.have;
+        number = step.number;
     }
     Listed {
         taken: at,
