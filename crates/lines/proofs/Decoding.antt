@@ -12,7 +12,7 @@ use Rattle.octets.proofs.Order.{lt-or-le}
 use Rattle.refusal.specs.Numbers.{hexMalformed}
 use Rattle.lines.specs.declared.line.LineRead.{LineRead}
 use Rattle.lines.specs.declared.line.LineRead.the-variants.{Octets, BadLine}
-use Rattle.lines.specs.Hex.{Decoded, octets, refused, hexValue, behind, octetThen, decoded, Paired, answer, octetsOf, sizeOf}
+use Rattle.lines.specs.Hex.{Decoded, octets, refused, hexValue, behind, octetThen, decoded, PairsRead, Paired, answer, octetsOf, sizeOf}
 use Rattle.lines.proofs.HexTable as table
 use Rattle.lines.proofs.HexTable.{valued}
 
@@ -43,7 +43,7 @@ module _ (c d : ℕ) (rest : List ℕ) where
   unfolding decoded octetThen
   bad-low good b = simp (le-ltb 15 (hexValue c) good, lt-ltb 15 (hexValue d) b)
 
-  bad-pair : 255 < valued c * 16 + valued d → decoded (c ∷ d ∷ rest) ≡ refused hexMalformed
+  bad-pair : 511 < valued c * 16 + valued d → decoded (c ∷ d ∷ rest) ≡ refused hexMalformed
   bad-pair b =
       ⊎-elim (λ (h : 15 < hexValue c). bad-high h)
       (λ (h : hexValue c ≤ 15).
@@ -51,7 +51,7 @@ module _ (c d : ℕ) (rest : List ℕ) where
       (lt-or-le 15 (hexValue d)))
       (lt-or-le 15 (hexValue c))
 
-  good-pair : valued c * 16 + valued d ≤ 255 → decoded (c ∷ d ∷ rest) ≡ behind ((valued c * 16 + valued d) ∷ []) (decoded rest)
+  good-pair : valued c * 16 + valued d ≤ 511 → decoded (c ∷ d ∷ rest) ≡ behind ((valued c * 16 + valued d) ∷ []) (decoded rest)
   unfolding decoded octetThen
   good-pair g =
       let h : hexValue c ≤ 15 = table.good c (omega arith) in
@@ -77,10 +77,13 @@ module _ {chars frame : List ℕ} {n at : ℕ} (going : Going chars frame n at) 
             ap decoded (drop-cons chars (n * 2) 0 there ∙ ap (λ (l : List ℕ). getD chars (n * 2) 0 ∷ l) last) ∙ alone (getD chars (n * 2) 0);
       }
 
-  module _ (most : ℕ) (is : most ≡ min (length chars / 2) 1600) (more : n < most) where
-    pub there : at + 1 < length chars
-    there = omega (arith, going .twice)
+  pub within : (most : ℕ) → most ≡ min (length chars / 2) 1600 → n < most → at + 1 < length chars
+  within most is more = omega (arith, going .twice)
 
+  pub pairs-read : PairsRead chars frame n
+  pairs-read rest = ap (λ (k : ℕ). decoded (take k chars ++ rest)) (sym (going .twice)) ∙ going .reads rest
+
+  module _ (there : at + 1 < length chars) where
     module _ {high low : ℕ} (h : high ≡ valued (getD chars at 0)) (l : low ≡ valued (getD chars (at + 1) 0)) where
       here : drop at chars ≡ getD chars at 0 ∷ getD chars (at + 1) 0 ∷ drop (at + 2) chars
       here =
@@ -88,13 +91,13 @@ module _ {chars frame : List ℕ} {n at : ℕ} (going : Going chars frame n at) 
           let two : suc at < length chars = omega (arith, there) in
           rw (add-one at, add-two at) (drop-cons chars at 0 one ∙ ap (λ (r : List ℕ). getD chars at 0 ∷ r) (drop-cons chars (suc at) 0 two))
 
-      pub stops : 255 < high * 16 + low → Paired chars frame n
-      stops b =
+      pub stops : n < 1600 → 511 < high * 16 + low → Paired chars frame n
+      stops more b =
           record {
             few = omega arith;
-            within = omega arith;
-            reads = λ rest. ap (λ (k : ℕ). decoded (take k chars ++ rest)) (sym (going .twice)) ∙ going .reads rest;
-            ends = λ few more.
+            within = omega (arith, going .twice);
+            reads = pairs-read;
+            ends = λ few longer.
                 ap (λ (k : ℕ). decoded (drop k chars)) (sym (going .twice)) ∙ ap decoded here
                 ∙ bad-pair (getD chars at 0) (getD chars (at + 1) 0) (drop (at + 2) chars) (rw (h, l) at b);
           }
@@ -108,7 +111,7 @@ module _ {chars frame : List ℕ} {n at : ℕ} (going : Going chars frame n at) 
           ∙ ap (λ (k : List ℕ). k ++ getD chars (suc at) 0 ∷ rest) (take-suc chars at 0 one)
           ∙ append-snoc (take at chars) (getD chars at 0) (getD chars (suc at) 0 ∷ rest))
 
-      pub turn : high * 16 + low ≤ 255 → n < length frame → Going chars (set frame n (high * 16 + low)) (n + 1) (at + 2)
+      pub turn : high * 16 + low ≤ 511 → n < length frame → Going chars (set frame n (high * 16 + low)) (n + 1) (at + 2)
       turn g room =
           let pair : (rest : List ℕ) → decoded (getD chars at 0 ∷ getD chars (at + 1) 0 ∷ rest) ≡ behind ((high * 16 + low) ∷ []) (decoded rest) =
           λ rest. rw (h, l) (good-pair (getD chars at 0) (getD chars (at + 1) 0) rest (rw (h, l) at g))
@@ -122,6 +125,32 @@ module _ {chars frame : List ℕ} {n at : ℕ} (going : Going chars frame n at) 
                 ∙ behind-twice (take n frame) (high * 16 + low) (decoded rest)
                 ∙ ap (λ (f : List ℕ). behind f (decoded rest)) (sym (rw (add-one n) (take-suc-set frame n (high * 16 + low) room)));
           }
+
+-- two pairs at once
+pub two :
+    {chars frame : List ℕ} {n at : ℕ}
+    → Going chars frame n at
+    → at + 3 < length chars
+    → {a b c d : ℕ}
+    → a ≡ valued (getD chars at 0)
+    → b ≡ valued (getD chars (at + 1) 0)
+    → c ≡ valued (getD chars (at + 2) 0)
+    → d ≡ valued (getD chars (at + 3) 0)
+    → a * 16 + b + (c * 16 + d) ≤ 511
+    → n + 1 < length frame
+    → Going chars (set (set frame n (a * 16 + b)) (n + 1) (c * 16 + d)) (n + 2) (at + 4)
+two {chars} {frame} {n} {at} going there {a} {b} {c} {d} ha hb hc hd g room =
+    let first = turn going (omega arith) ha hb (omega arith) (omega arith) in
+    let place : at + 3 ≡ at + 2 + 1 = omega arith in
+    let last : d ≡ valued (getD chars (at + 2 + 1) 0) = hd ∙ ap (λ (k : ℕ). valued (getD chars k 0)) place in
+    let second = turn first (omega arith) hc last (omega arith) (omega (arith, length-set frame n (a * 16 + b))) in
+    let count : n + 1 + 1 ≡ n + 2 = omega arith in
+    let end : at + 2 + 2 ≡ at + 4 = omega arith in
+    rw (← count, ← end) second
+
+-- going on behind them
+pub resumes : {chars frame : List ℕ} {n : ℕ} → length frame ≡ 1600 → PairsRead chars frame n → Going chars frame n (n * 2)
+resumes room read = record { room = room; twice = refl; reads = read }
 
 -- What `decode` promises.
 abbrev pub Promised : List ℕ → LineRead → List ℕ → Type 0

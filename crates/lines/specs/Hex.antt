@@ -35,12 +35,16 @@ decoded [] = octets []
 decoded (c ∷ []) = refused hexMalformed
 decoded (c ∷ d ∷ rest) = octetThen (hexValue c) (hexValue d) (decoded rest)
 
--- The n pairs of hex characters that some characters start with, and their octets, whatever follows. Of at most 3,200 characters
+-- n pairs of hex characters that some characters start with have these octets, whatever follows
+abbrev pub PairsRead : List ℕ → List ℕ → ℕ → Type 0
+PairsRead chars frame n = (rest : List ℕ) → decoded (take (n * 2) chars ++ rest) ≡ behind (take n frame) (decoded rest)
+
+-- The n pairs of hex characters that some characters start with, and their octets. Of at most 3,200 characters
 -- they are all, or what follows is refused.
 pub record Paired (chars frame : List ℕ) (n : ℕ) : Type 0 where
   pub few : n ≤ 1600
   pub within : n * 2 ≤ length chars
-  pub reads : (rest : List ℕ) → decoded (take (n * 2) chars ++ rest) ≡ behind (take n frame) (decoded rest)
+  pub reads : PairsRead chars frame n
   pub ends : length chars ≤ 3200 → n * 2 < length chars → decoded (drop (n * 2) chars) ≡ refused hexMalformed
 
 -- the answer of the code, and the octets that it stands for

@@ -80,6 +80,10 @@ pub(crate) fn put_field(out: &mut [u8], at: usize, key: &[u8], n: u64) -> usize
     ensures { λ r. ⌜ Appended (now (out .entry)) at (field (now (key .entry)) n) (length (now (key .entry)) + 21) (now (out .exit)) r ⌝ }
 {
     let value = put_text(out, at, key);
+    if n < 10 {
+        let end = put_octet(out, value, 48 + n as u8);
+        return put_octet(out, end, LF);
+    }
     let end = put_number(out, value, n);
     put_octet(out, end, LF)
 }

@@ -1,12 +1,12 @@
--- `lines::hex::pairs` meets its contract: each turn makes one octet of two characters.
+-- `lines::hex::pairs` meets its contract: behind the octets that are made two at a time, each turn makes one octet of two characters.
 use Prim.Native.Nat.{_+_, _-_, _≤_}
 use mathlib.Core.Path.{sym, _∙_}
 use native.Mathlib.Omega.{arith}
 use lib.ListN.{getD}
+use borrow.Author.Needs.{needs}
 use Rattle.lines.proofs.Decoding as decoding
 use Rattle.lines.proofs.HexTable as table
 use Rattle.lines.proofs.HexTable.{table}
-use borrow.Author.Needs.{needs}
 use Rattle.lines.proofs.hex.pairs.Statement.{statement}
 use Rattle.lines.proofs.hex.pairs.Tie as tie
 
@@ -17,15 +17,25 @@ abbrev μ-loop : tie.MeasureT-loop
 μ-loop chars frame₀ hex most n₀ at₀ frame n at = most - n
 
 least-requires : tie.Need-least-requires Inv-loop μ-loop
-least-requires c κs = search needs
+least-requires c κs =
+    search needs
+
+twice-pairs-requires : tie.Need-twice-pairs-requires Inv-loop μ-loop
+twice-pairs-requires c κs =
+    (c .before .before .before .before .pre, (omega (arith, c .before .least .ensures), omega (arith, c .before .least .ensures)))
+
+mul-at : tie.Need-mul-at Inv-loop μ-loop
+mul-at c =
+    omega (arith, c .before .before .twice-pairs .ensures .0, c .before .before .before .before .least .ensures)
 
 loop-holds : tie.Need-loop-holds Inv-loop μ-loop
 unfolding table
 loop-holds c =
-    let a = c .before .before .before .args in (decoding.begins (a .chars .now) (a .frame .now) (c .before .before .before .pre), (omega arith, table.values))
+    let read = c .before .before .twice-pairs in (decoding.resumes (omega (arith, c .before .before .before .before .before .before .before .pre)) (read .ensures .1), (read .ensures .0, table.values))
 
 shared-slice-read-high : tie.Need-shared-slice-read-high Inv-loop μ-loop
-shared-slice-read-high c = search needs
+shared-slice-read-high c =
+    omega (arith, decoding.within (c .before .before .loop .inv .0) _ (c .before .before .before .before .before .before .before .least .ensures) (c .before .loop-test .taken))
 
 cast-high : tie.Need-cast-high Inv-loop μ-loop
 cast-high c =
@@ -40,10 +50,12 @@ array-read-high c =
     omega (arith, c .shared-slice-known2 .given (c .before .before .loop .at))
 
 add-low : tie.Need-add-low Inv-loop μ-loop
-add-low c = search needs
+add-low c =
+    omega (arith, decoding.within (c .before .before .loop .inv .0) _ (c .before .before .before .before .before .before .before .least .ensures) (c .before .loop-test .taken))
 
 shared-slice-read-low : tie.Need-shared-slice-read-low Inv-loop μ-loop
-shared-slice-read-low c = search needs
+shared-slice-read-low c =
+    omega (arith, decoding.within (c .before .before .before .loop .inv .0) _ (c .before .before .before .before .before .before .before .before .least .ensures) (c .before .before .loop-test .taken))
 
 cast-low : tie.Need-cast-low Inv-loop μ-loop
 cast-low c =
@@ -60,7 +72,7 @@ array-read-low c =
 mul-both : tie.Need-mul-both Inv-loop μ-loop
 mul-both c =
     let l = c .before .before .before .loop in
-    let s = c .before .before .before .before .before .before .before .args .chars .now in
+    let s = c .before .before .before .before .before .before .before .before .before .before .before .args .chars .now in
     let h = l .inv .1 .1 (getD s (l .at) 0) (omega (arith, c .before .shared-slice-known2 .given (l .at))) in
     let w = l .inv .1 .1 (getD s (l .at + 1) 0) (omega (arith, c .shared-slice-known3 .given (l .at + 1))) in
     omega (arith, h, table.most (getD s (l .at) 0))
@@ -68,36 +80,42 @@ mul-both c =
 add-both : tie.Need-add-both Inv-loop μ-loop
 add-both c =
     let l = c .before .before .before .loop in
-    let s = c .before .before .before .before .before .before .before .args .chars .now in
+    let s = c .before .before .before .before .before .before .before .before .before .before .before .args .chars .now in
     let h = l .inv .1 .1 (getD s (l .at) 0) (omega (arith, c .before .shared-slice-known2 .given (l .at))) in
     let w = l .inv .1 .1 (getD s (l .at + 1) 0) (omega (arith, c .shared-slice-known3 .given (l .at + 1))) in
     omega (arith, h, w, table.most (getD s (l .at) 0), table.most (getD s (l .at + 1) 0))
 
 same-length : tie.Need-same-length Inv-loop μ-loop
 same-length c =
-    c .before .before .before .before .loop .inv .0 .room ∙ sym (c .before .before .before .before .before .before .before .before .pre)
+    c .before .before .before .before .loop .inv .0 .room ∙ sym (c .before .before .before .before .before .before .before .before .before .before .before .before .pre)
 
 returns : tie.Need-returns Inv-loop μ-loop
 returns c =
     let l = c .before .before .before .before .loop in
-    let s = c .before .before .before .before .before .before .before .before .args .chars .now in
+    let s = c .before .before .before .before .before .before .before .before .before .before .before .before .args .chars .now in
     let h = l .inv .1 .1 (getD s (l .at) 0) (omega (arith, c .before .before .shared-slice-known2 .given (l .at))) in
     let w = l .inv .1 .1 (getD s (l .at + 1) 0) (omega (arith, c .before .shared-slice-known3 .given (l .at + 1))) in
-    decoding.stops (l .inv .0) _ (c .before .before .before .before .before .least .ensures) (c .before .before .before .loop-test .taken) h w (c .if1 .taken)
+    decoding.stops (l .inv .0) (decoding.within (l .inv .0) _ (c .before .before .before .before .before .before .before .before .before .least .ensures) (c .before .before .before .loop-test .taken)) h w (omega (arith, c .before .before .before .before .before .before .before .before .before .least .ensures, c .before .before .before .loop-test .taken)) (c .if1 .taken)
 
 cast-frame : tie.Need-cast-frame Inv-loop μ-loop
-cast-frame c = search needs
+cast-frame c =
+    let l = c .before .before .before .before .loop in
+    let s = c .before .before .before .before .before .before .before .before .before .before .before .before .args .chars .now in
+    let h = l .inv .1 .1 (getD s (l .at) 0) (omega (arith, c .before .before .shared-slice-known2 .given (l .at))) in
+    let w = l .inv .1 .1 (getD s (l .at + 1) 0) (omega (arith, c .before .shared-slice-known3 .given (l .at + 1))) in
+    omega (arith, h, w, table.octet (getD s (l .at) 0) (getD s (l .at + 1) 0) (omega (arith, h, w, c .if1 .left)))
 
 slice-write-frame : tie.Need-slice-write-frame Inv-loop μ-loop
-slice-write-frame c = search needs
+slice-write-frame c =
+    omega (arith, c .before .before .before .before .loop .inv .0 .room, c .before .before .before .before .before .before .before .before .before .least .ensures, c .before .before .before .loop-test .taken)
 
 add-n : tie.Need-add-n Inv-loop μ-loop
 add-n c =
-    search needs
+    omega (arith, c .before .before .before .before .before .before .before .before .before .least .ensures, c .before .before .before .loop-test .taken)
 
 add-at : tie.Need-add-at Inv-loop μ-loop
 add-at c =
-    omega (arith, c .before .before .before .before .loop .inv .0 .twice)
+    omega (arith, c .before .before .before .before .loop .inv .0 .twice, c .before .before .before .before .before .before .before .before .before .least .ensures, c .before .before .before .loop-test .taken)
 
 loop-less : tie.Need-loop-less Inv-loop μ-loop
 loop-less c =
@@ -106,18 +124,18 @@ loop-less c =
 loop-again : tie.Need-loop-again Inv-loop μ-loop
 loop-again c =
     let l = c .before .before .before .before .loop in
-    let s = c .before .before .before .before .before .before .before .before .args .chars .now in
+    let s = c .before .before .before .before .before .before .before .before .before .before .before .before .args .chars .now in
     let h = l .inv .1 .1 (getD s (l .at) 0) (omega (arith, c .before .before .shared-slice-known2 .given (l .at))) in
     let w = l .inv .1 .1 (getD s (l .at + 1) 0) (omega (arith, c .before .shared-slice-known3 .given (l .at + 1))) in
-    (decoding.turn (l .inv .0) _ (c .before .before .before .before .before .least .ensures) (c .before .before .before .loop-test .taken) h w (c .if1 .left) (omega arith), (omega arith, l .inv .1 .1))
+    (decoding.turn (l .inv .0) (decoding.within (l .inv .0) _ (c .before .before .before .before .before .before .before .before .before .least .ensures) (c .before .before .before .loop-test .taken)) h w (c .if1 .left) (omega (arith, c .before .before .before .before .before .before .before .before .before .least .ensures, c .before .before .before .loop-test .taken, l .inv .0 .room)), (omega (arith, c .before .before .before .loop-test .taken), l .inv .1 .1))
 
 same-length-2 : tie.Need-same-length-2 Inv-loop μ-loop
 same-length-2 c =
-    c .before .loop .inv .0 .room ∙ sym (c .before .before .before .before .before .pre)
+    c .before .loop .inv .0 .room ∙ sym (c .before .before .before .before .before .before .before .before .before .pre)
 
 returns-2 : tie.Need-returns-2 Inv-loop μ-loop
 returns-2 c =
-    let l = c .before .loop in decoding.all (l .inv .0) _ (c .before .before .least .ensures) (l .inv .1 .0) (c .loop-test .left)
+    let l = c .before .loop in decoding.all (l .inv .0) _ (c .before .before .before .before .before .before .least .ensures) (l .inv .1 .0) (c .loop-test .left)
 
 pub pairs-spec : {M : Type 1} → statement M
 pairs-spec =
@@ -126,6 +144,8 @@ pairs-spec =
     Inv-loop
     μ-loop
     least-requires
+    twice-pairs-requires
+    mul-at
     loop-holds
     shared-slice-read-high
     cast-high
