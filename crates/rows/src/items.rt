@@ -89,3 +89,18 @@ pub fn octets_of(octets: &[u8], item: Item) -> &[u8] {
     }
     part(octets, item.start, item.end - item.start)
 }
+
+// The walk over the items alone.
+pub fn walk(input: &[u8], works: u64, first: usize) -> u64 {
+    let mut acc = crate::fold::FIRST;
+    let mut at = first;
+    let mut left = works;
+    while 0 < left {
+        left -= 1;
+        let item = item_at(input, at, first);
+        at = item.end;
+        let item_octets = octets_of(input, item);
+        acc = crate::fold::octet(acc, octets::octet(item_octets, 0));
+    }
+    acc
+}

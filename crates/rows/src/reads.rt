@@ -20,12 +20,12 @@ use voice::voice::VoiceRead;
 const CARD: u8 = 5;
 
 // The frame check.
-pub fn check(acc: u64, frame: &[u8]) -> u64 {
+fn check(acc: u64, frame: &[u8]) -> u64 {
     octet(acc, frame::opening::check(frame).number)
 }
 
 // What the voice card is handed: the source, the octets, the first of them.
-pub fn hand(acc: u64, frame: &[u8], silence: &[u8], table: &[u16; 256]) -> u64 {
+fn hand(acc: u64, frame: &[u8], silence: &[u8], table: &[u16; 256]) -> u64 {
     match card::handing::find(frame, table, CARD) {
         Handed::FromFrame { start, len } => handed(
             octet(acc, 0),
@@ -41,7 +41,7 @@ fn handed(acc: u64, octets: &[u8]) -> u64 {
 }
 
 // A frame opened, and every payload read.
-pub fn read(acc: u64, frame: &[u8], table: &[u16; 256]) -> u64 {
+fn read(acc: u64, frame: &[u8], table: &[u16; 256]) -> u64 {
     let checked = frame::opening::check(frame);
     let number = checked.number;
     if number != 0 {
@@ -171,4 +171,50 @@ fn read_data(acc: u64, payload: &[u8]) -> u64 {
         ),
         DataRead::BadData(number) => octet(acc, number),
     }
+}
+
+// The check of each item.
+pub fn check_each(input: &mut [u8], works: u64, first: usize) -> u64 {
+    let mut acc = crate::fold::FIRST;
+    let mut at = first;
+    let mut left = works;
+    while 0 < left {
+        left -= 1;
+        let item = crate::items::item_at(input, at, first);
+        at = item.end;
+        crate::items::touch(input, item, acc);
+        acc = check(acc, crate::items::octets_of(input, item));
+    }
+    acc
+}
+
+// Each item opened and read.
+pub fn read_each(input: &mut [u8], works: u64, first: usize, table: &[u16; 256]) -> u64 {
+    let mut acc = crate::fold::FIRST;
+    let mut at = first;
+    let mut left = works;
+    while 0 < left {
+        left -= 1;
+        let item = crate::items::item_at(input, at, first);
+        at = item.end;
+        crate::items::touch(input, item, acc);
+        acc = read(acc, crate::items::octets_of(input, item), table);
+    }
+    acc
+}
+
+// What the card is handed of each item.
+pub fn hand_each(input: &mut [u8], works: u64, first: usize, table: &[u16; 256]) -> u64 {
+    let silence = [85u8; 20];
+    let mut acc = crate::fold::FIRST;
+    let mut at = first;
+    let mut left = works;
+    while 0 < left {
+        left -= 1;
+        let item = crate::items::item_at(input, at, first);
+        at = item.end;
+        crate::items::touch(input, item, acc);
+        acc = hand(acc, crate::items::octets_of(input, item), &silence, table);
+    }
+    acc
 }

@@ -36,7 +36,7 @@ pub fn level_in(octet: u8) -> i8 {
 }
 
 // The entry of four octets.
-pub fn digit_entry(item: &[u8]) -> dialling::sender::Entry {
+fn digit_entry(item: &[u8]) -> dialling::sender::Entry {
     dialling::sender::Entry {
         on: octets::octet(item, 0) % 2 == 1,
         code: octets::octet(item, 1),
@@ -45,7 +45,7 @@ pub fn digit_entry(item: &[u8]) -> dialling::sender::Entry {
     }
 }
 
-pub fn sending(acc: u64, answer: Sending) -> u64 {
+fn sending(acc: u64, answer: Sending) -> u64 {
     match answer {
         Sending::BadEntry(number) => octet(acc, number),
         Sending::Unsent => fold(acc, NOTHING),
@@ -53,7 +53,7 @@ pub fn sending(acc: u64, answer: Sending) -> u64 {
     }
 }
 
-pub fn received(acc: u64, received: dialling::receiver::Received) -> u64 {
+fn received(acc: u64, received: dialling::receiver::Received) -> u64 {
     let fill = received.fill;
     let periods = received.periods;
     let said = octet(octet(acc, received.number), received.fills);
@@ -62,7 +62,7 @@ pub fn received(acc: u64, received: dialling::receiver::Received) -> u64 {
 }
 
 // The entry of eleven octets.
-pub fn signalling_entry(item: &[u8]) -> seizing::sender::Entry {
+fn signalling_entry(item: &[u8]) -> seizing::sender::Entry {
     let mut samples = [0u8; 10];
     octets::put_octets(&mut samples, 0, crate::items::part(item, 1, 10));
     seizing::sender::Entry {
@@ -71,7 +71,7 @@ pub fn signalling_entry(item: &[u8]) -> seizing::sender::Entry {
     }
 }
 
-pub fn sent(acc: u64, sent: Sent) -> u64 {
+fn sent(acc: u64, sent: Sent) -> u64 {
     if sent.number != 0 {
         return octet(acc, sent.number);
     }
@@ -82,11 +82,85 @@ pub fn sent(acc: u64, sent: Sent) -> u64 {
     fold(acc, NOTHING)
 }
 
-pub fn seized(acc: u64, received: seizing::receiver::Received) -> u64 {
+fn seized(acc: u64, received: seizing::receiver::Received) -> u64 {
     let periods = received.periods;
     let receiver = received.receiver;
     let said = octet(octet(acc, received.number), received.fills);
     let filled = octet(octet(said, received.fill), received.carried);
     let carried = crate::fold::samples(filled, periods);
     fold(octet(carried, receiver.value), flag(receiver.alarm))
+}
+
+// The items as entries to one digit sender.
+pub fn send_digits(input: &[u8], works: u64, first: usize) -> u64 {
+    let mut sender = dialling::sender::fresh();
+    let mut acc = crate::fold::FIRST;
+    let mut at = first;
+    let mut left = works;
+    while 0 < left {
+        left -= 1;
+        let item = crate::items::item_at(input, at, first);
+        at = item.end;
+        let octets = crate::items::octets_of(input, item);
+        let taken = dialling::sender::send(sender, digit_entry(octets));
+        sender = taken.sender;
+        let answer = taken.answer;
+        acc = sending(acc, answer);
+    }
+    acc
+}
+
+// The items as payloads to one digit receiver.
+pub fn receive_digits(input: &[u8], works: u64, first: usize) -> u64 {
+    let mut receiver = dialling::receiver::fresh();
+    let mut acc = crate::fold::FIRST;
+    let mut at = first;
+    let mut left = works;
+    while 0 < left {
+        left -= 1;
+        let item = crate::items::item_at(input, at, first);
+        at = item.end;
+        let octets = crate::items::octets_of(input, item);
+        let answer = dialling::receiver::receive(receiver, octets);
+        receiver = answer.receiver;
+        acc = received(acc, answer);
+    }
+    acc
+}
+
+// The items as entries to one signalling sender.
+pub fn send_signalling(input: &[u8], works: u64, first: usize) -> u64 {
+    let started = seizing::sender::start(0);
+    let mut sender = started.sender;
+    let mut acc = crate::fold::FIRST;
+    let mut at = first;
+    let mut left = works;
+    while 0 < left {
+        left -= 1;
+        let item = crate::items::item_at(input, at, first);
+        at = item.end;
+        let octets = crate::items::octets_of(input, item);
+        let answer = seizing::sender::send(sender, signalling_entry(octets));
+        sender = answer.sender;
+        acc = sent(acc, answer);
+    }
+    acc
+}
+
+// The items as payloads to one signalling receiver.
+pub fn receive_signalling(input: &[u8], works: u64, first: usize) -> u64 {
+    let mut receiver = seizing::receiver::fresh();
+    let mut acc = crate::fold::FIRST;
+    let mut at = first;
+    let mut left = works;
+    while 0 < left {
+        left -= 1;
+        let item = crate::items::item_at(input, at, first);
+        at = item.end;
+        let octets = crate::items::octets_of(input, item);
+        let answer = seizing::receiver::receive(receiver, octets);
+        receiver = answer.receiver;
+        acc = seized(acc, answer);
+    }
+    acc
 }

@@ -8,7 +8,7 @@ use record::text::TextAnswer;
 ghost use Prim.Native.Nat.{_≤_};
 
 // A text read; of the table two places, or all, are folded.
-pub fn read(acc: u64, text: &[u8], table: &mut [u16; 256], all: bool) -> u64 {
+fn read(acc: u64, text: &[u8], table: &mut [u16; 256], all: bool) -> u64 {
     let said = answer(acc, record::text::read_text(text, table));
     if all {
         return places(said, table);
@@ -56,4 +56,18 @@ fn places(acc: u64, table: &[u16; 256]) -> u64 {
         cid += 1;
     }
     place(folded, table, 255)
+}
+
+// Each item read.
+pub fn read_each(input: &[u8], works: u64, first: usize, table: &mut [u16; 256], all: bool) -> u64 {
+    let mut acc = crate::fold::FIRST;
+    let mut at = first;
+    let mut left = works;
+    while 0 < left {
+        left -= 1;
+        let item = crate::items::item_at(input, at, first);
+        at = item.end;
+        acc = read(acc, crate::items::octets_of(input, item), table, all);
+    }
+    acc
 }

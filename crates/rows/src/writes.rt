@@ -18,8 +18,11 @@ use writer::signalled::Signalled;
 ghost use Prim.Native.Nat.{_<_};
 ghost use mathlib.Core.Path.{_≡_};
 
+// The place of the first octet of the material that passes through.
+const BODY: usize = 64;
+
 // Every octet of the room.
-pub fn octets(acc: u64, room: &[u8]) -> u64 {
+fn octets(acc: u64, room: &[u8]) -> u64 {
     let mut folded = acc;
     let mut i: usize = 0;
     while i < room.len() {
@@ -54,7 +57,7 @@ fn ended(acc: u64, frame: &[u8], at: usize) -> u64 {
 }
 
 // A frame of six sub-frames written into as much of the room as the item says, to the first refusal.
-pub fn write(acc: u64, room: &mut [u8], m: &[u8], table: &[u16; 256]) -> u64 {
+fn write(acc: u64, room: &mut [u8], m: &[u8], table: &[u16; 256]) -> u64 {
     let n = crate::items::size(m, 0);
     if n < room.len() {
         return write_voice(acc, &mut room[..n], m, table);
@@ -257,4 +260,29 @@ fn write_data(acc: u64, writer: Writer, frame: &mut [u8], m: &[u8], table: &[u16
         Primary::PrimaryTaken(next) => ended(fold(acc, next.at as u64), frame, next.at),
         Primary::PrimaryRefused(number) => octet(acc, number),
     }
+}
+
+// A frame written from each item; the whole room is folded where all is.
+pub fn write_each(
+    input: &mut [u8],
+    works: u64,
+    first: usize,
+    table: &[u16; 256],
+    room: &mut [u8],
+    all: bool,
+) -> u64 {
+    let mut acc = crate::fold::FIRST;
+    let mut at = first;
+    let mut left = works;
+    while 0 < left {
+        left -= 1;
+        let item = crate::items::item_at(input, at, first);
+        at = item.end;
+        crate::items::set_in(input, item, BODY, acc);
+        acc = write(acc, room, crate::items::octets_of(input, item), table);
+        if all {
+            acc = octets(acc, room);
+        }
+    }
+    acc
 }

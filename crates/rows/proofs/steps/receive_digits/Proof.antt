@@ -1,0 +1,57 @@
+-- `rows::steps::receive_digits` is safe and ends.
+use native.Mathlib.Omega.{arith}
+use Rattle.rows.proofs.steps.receive_digits.Statement.{statement}
+use Rattle.rows.proofs.steps.receive_digits.Tie as tie
+
+abbrev Inv-loop : tie.InvT-loop
+Inv-loop input works first receiver₀ acc₀ at₀ left₀ receiver acc at left = Unit {0}
+
+abbrev μ-loop : tie.MeasureT-loop
+μ-loop input works first receiver₀ acc₀ at₀ left₀ receiver acc at left = left
+
+fresh-requires : tie.Need-fresh-requires Inv-loop μ-loop
+fresh-requires c κs = tt
+
+loop-holds : tie.Need-loop-holds Inv-loop μ-loop
+loop-holds c = tt
+
+sub-left : tie.Need-sub-left Inv-loop μ-loop
+sub-left c = omega arith
+
+item-at-requires : tie.Need-item-at-requires Inv-loop μ-loop
+item-at-requires c κs = tt
+
+octets-of-requires : tie.Need-octets-of-requires Inv-loop μ-loop
+octets-of-requires c κs = tt
+
+receive-requires : tie.Need-receive-requires Inv-loop μ-loop
+receive-requires c κs = tt
+
+received-requires : tie.Need-received-requires Inv-loop μ-loop
+received-requires c κs = tt
+
+loop-less : tie.Need-loop-less Inv-loop μ-loop
+loop-less c = omega arith
+
+loop-again : tie.Need-loop-again Inv-loop μ-loop
+loop-again c = tt
+
+returns : tie.Need-returns Inv-loop μ-loop
+returns c = tt
+
+pub receive-digits-spec : {M : Type 1} → statement M
+receive-digits-spec =
+    tie.close
+    (tie.spec
+    Inv-loop
+    μ-loop
+    fresh-requires
+    loop-holds
+    sub-left
+    item-at-requires
+    octets-of-requires
+    receive-requires
+    received-requires
+    loop-less
+    loop-again
+    returns)

@@ -1,0 +1,61 @@
+-- `rows::steps::send_digits` is safe and ends.
+use native.Mathlib.Omega.{arith}
+use Rattle.rows.proofs.steps.send_digits.Statement.{statement}
+use Rattle.rows.proofs.steps.send_digits.Tie as tie
+
+abbrev Inv-loop : tie.InvT-loop
+Inv-loop input works first sender₀ acc₀ at₀ left₀ sender acc at left = Unit {0}
+
+abbrev μ-loop : tie.MeasureT-loop
+μ-loop input works first sender₀ acc₀ at₀ left₀ sender acc at left = left
+
+fresh-requires : tie.Need-fresh-requires Inv-loop μ-loop
+fresh-requires c κs = tt
+
+loop-holds : tie.Need-loop-holds Inv-loop μ-loop
+loop-holds c = tt
+
+sub-left : tie.Need-sub-left Inv-loop μ-loop
+sub-left c = omega arith
+
+item-at-requires : tie.Need-item-at-requires Inv-loop μ-loop
+item-at-requires c κs = tt
+
+octets-of-requires : tie.Need-octets-of-requires Inv-loop μ-loop
+octets-of-requires c κs = tt
+
+digit-entry-requires : tie.Need-digit-entry-requires Inv-loop μ-loop
+digit-entry-requires c κs = tt
+
+send-requires : tie.Need-send-requires Inv-loop μ-loop
+send-requires c κs = tt
+
+sending-requires : tie.Need-sending-requires Inv-loop μ-loop
+sending-requires c κs = tt
+
+loop-less : tie.Need-loop-less Inv-loop μ-loop
+loop-less c = omega arith
+
+loop-again : tie.Need-loop-again Inv-loop μ-loop
+loop-again c = tt
+
+returns : tie.Need-returns Inv-loop μ-loop
+returns c = tt
+
+pub send-digits-spec : {M : Type 1} → statement M
+send-digits-spec =
+    tie.close
+    (tie.spec
+    Inv-loop
+    μ-loop
+    fresh-requires
+    loop-holds
+    sub-left
+    item-at-requires
+    octets-of-requires
+    digit-entry-requires
+    send-requires
+    sending-requires
+    loop-less
+    loop-again
+    returns)

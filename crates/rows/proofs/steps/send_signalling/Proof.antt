@@ -1,0 +1,61 @@
+-- `rows::steps::send_signalling` is safe and ends.
+use native.Mathlib.Omega.{arith}
+use Rattle.rows.proofs.steps.send_signalling.Statement.{statement}
+use Rattle.rows.proofs.steps.send_signalling.Tie as tie
+
+abbrev Inv-loop : tie.InvT-loop
+Inv-loop input works first sender₀ acc₀ at₀ left₀ sender acc at left = Unit {0}
+
+abbrev μ-loop : tie.MeasureT-loop
+μ-loop input works first sender₀ acc₀ at₀ left₀ sender acc at left = left
+
+start-requires : tie.Need-start-requires Inv-loop μ-loop
+start-requires c κs = tt
+
+loop-holds : tie.Need-loop-holds Inv-loop μ-loop
+loop-holds c = tt
+
+sub-left : tie.Need-sub-left Inv-loop μ-loop
+sub-left c = omega arith
+
+item-at-requires : tie.Need-item-at-requires Inv-loop μ-loop
+item-at-requires c κs = tt
+
+octets-of-requires : tie.Need-octets-of-requires Inv-loop μ-loop
+octets-of-requires c κs = tt
+
+signalling-entry-requires : tie.Need-signalling-entry-requires Inv-loop μ-loop
+signalling-entry-requires c κs = tt
+
+send-requires : tie.Need-send-requires Inv-loop μ-loop
+send-requires c κs = tt
+
+sent-requires : tie.Need-sent-requires Inv-loop μ-loop
+sent-requires c κs = tt
+
+loop-less : tie.Need-loop-less Inv-loop μ-loop
+loop-less c = omega arith
+
+loop-again : tie.Need-loop-again Inv-loop μ-loop
+loop-again c = tt
+
+returns : tie.Need-returns Inv-loop μ-loop
+returns c = tt
+
+pub send-signalling-spec : {M : Type 1} → statement M
+send-signalling-spec =
+    tie.close
+    (tie.spec
+    Inv-loop
+    μ-loop
+    start-requires
+    loop-holds
+    sub-left
+    item-at-requires
+    octets-of-requires
+    signalling-entry-requires
+    send-requires
+    sent-requires
+    loop-less
+    loop-again
+    returns)

@@ -1,0 +1,76 @@
+-- `rows::writes::write_each` is safe and ends.
+use mathlib.Core.Path.{_≡_}
+use lib.ListN.{length}
+use native.Mathlib.Omega.{arith}
+use borrow.Author.Needs.{needs}
+use Rattle.rows.proofs.writes.write_each.Statement.{statement}
+use Rattle.rows.proofs.writes.write_each.Tie as tie
+
+abbrev Inv-loop : tie.InvT-loop
+Inv-loop input₀ works first table room₀ all acc₀ at₀ left₀ input room acc at left = (length input ≡ length input₀) × (length room ≡ length room₀)
+
+abbrev μ-loop : tie.MeasureT-loop
+μ-loop input₀ works first table room₀ all acc₀ at₀ left₀ input room acc at left = left
+
+loop-holds : tie.Need-loop-holds Inv-loop μ-loop
+loop-holds c = (search needs, search needs)
+
+sub-left : tie.Need-sub-left Inv-loop μ-loop
+sub-left c = omega arith
+
+item-at-requires : tie.Need-item-at-requires Inv-loop μ-loop
+item-at-requires c κs = tt
+
+set-in-requires : tie.Need-set-in-requires Inv-loop μ-loop
+set-in-requires c κs = tt
+
+octets-of-requires : tie.Need-octets-of-requires Inv-loop μ-loop
+octets-of-requires c κs = tt
+
+write-requires : tie.Need-write-requires Inv-loop μ-loop
+write-requires c κs = tt
+
+octets-requires : tie.Need-octets-requires Inv-loop μ-loop
+octets-requires c κs = tt
+
+loop-less : tie.Need-loop-less Inv-loop μ-loop
+loop-less c = omega arith
+
+loop-again : tie.Need-loop-again Inv-loop μ-loop
+loop-again c = (search needs, search needs)
+
+loop-less-2 : tie.Need-loop-less-2 Inv-loop μ-loop
+loop-less-2 c = omega arith
+
+loop-again-2 : tie.Need-loop-again-2 Inv-loop μ-loop
+loop-again-2 c = (search needs, search needs)
+
+same-length : tie.Need-same-length Inv-loop μ-loop
+same-length c = search needs
+
+same-length-2 : tie.Need-same-length-2 Inv-loop μ-loop
+same-length-2 c = search needs
+
+returns : tie.Need-returns Inv-loop μ-loop
+returns c = tt
+
+pub write-each-spec : {M : Type 1} → statement M
+write-each-spec =
+    tie.close
+    (tie.spec
+    Inv-loop
+    μ-loop
+    loop-holds
+    sub-left
+    item-at-requires
+    set-in-requires
+    octets-of-requires
+    write-requires
+    octets-requires
+    loop-less
+    loop-again
+    loop-less-2
+    loop-again-2
+    same-length
+    same-length-2
+    returns)
