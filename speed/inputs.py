@@ -31,7 +31,7 @@ def entries(row, items):
 
 
 def joined(row, works, text, items):
-    """The whole input, works 0 for each item once; items that do not fit any more are left out."""
+    """The whole input, works None for each item once; items that do not fit any more are left out."""
     out = b""
     count = 0
     for item in entries(row, items):
@@ -463,7 +463,7 @@ COMPARE = {"c": compare_frames, "r": compare_frames, "h": compare_frames, "w": c
 
 
 def compare(row, seed):
-    """The bytes of a comparing input: each item once, then some again."""
+    """The bytes of a comparing input: each item once."""
     rng = random.Random(f"{row} {seed}")
     text, items = COMPARE[row](rng, row)
     return joined(row, None, text, items)

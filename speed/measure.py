@@ -1,6 +1,6 @@
 #!/usr/bin/env python3
 """Compares the answers of the proved programs and of plain C on seeded inputs, then times both by turns and prints the table
-of docs/SPEED.md: `measure.py ROWS LISTING PLAIN HOW..`, three programs and how each is run (see speed/run).
+of docs/SPEED.md: `measure.py ROWS.. -- LISTING.. -- PLAIN.. -- COPY..`, four commands (see speed/run).
 """
 import math
 import os

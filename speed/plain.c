@@ -656,11 +656,6 @@ PLAIN unsigned digit_receive(struct digit_receiver *receiver, const uint8_t *pay
     return 0;
 }
 
-PLAIN void digit_voice(struct digit_receiver *receiver)
-{
-    memset(&receiver->fill, 0, sizeof receiver->fill);
-}
-
 /* Only the samples of the carried periods are unpacked: five octets a period. */
 PLAIN unsigned signalling_receive(struct signalling_receiver *receiver, const uint8_t *payload, size_t length,
                                   struct signalling_answer *answer)

@@ -1,5 +1,5 @@
 /* Plain C of document 01's work: frames, payloads, writer, senders, receivers, provisioning text, listing.
-   "Document 01" is documents/01-scope.md; a comment names its section. Functions that may refuse return the refusal
+   "Document 01" is ../shared/documents/01-scope.md; a comment names its section. Functions that may refuse return the refusal
    number, 0 where there is none. What an out-parameter holds beside a refusal has no meaning, unless said. */
 #ifndef PLAIN_H
 #define PLAIN_H
@@ -189,7 +189,7 @@ PLAIN unsigned signalling_send(struct signalling_sender *sender, bool alarm, con
 struct digit_receiver {
     bool heard; /* a payload was accepted */
     uint8_t sequence;
-    struct window fill; /* the last state, edge 0; off once voice was heard */
+    struct window fill; /* the last state, edge 0 */
 };
 
 struct digit_answer {
@@ -215,7 +215,6 @@ struct signalling_answer {
 };
 
 PLAIN unsigned digit_receive(struct digit_receiver *receiver, const uint8_t *payload, size_t length, struct digit_answer *answer);
-PLAIN void digit_voice(struct digit_receiver *receiver); /* an accepted type 0 voice payload came */
 PLAIN unsigned signalling_receive(struct signalling_receiver *receiver, const uint8_t *payload, size_t length,
                                   struct signalling_answer *answer);
 

@@ -353,7 +353,7 @@ static inline uint64_t row_text_all(struct state *state, uint8_t *item, size_t l
     return acc;
 }
 
-/* Any other letter: the walk over the items alone. */
+/* n: the walk over the items alone. */
 static inline uint64_t row_walk(struct state *state, uint8_t *item, size_t length, uint64_t acc)
 {
     (void)state;
@@ -419,8 +419,10 @@ static uint64_t run_row(uint8_t row, struct state *state, const struct items *it
         return each(state, items, row_text);
     case 'P':
         return each(state, items, row_text_all);
-    default:
+    case 'n':
         return each(state, items, row_walk);
+    default:
+        return 1;
     }
 }
 

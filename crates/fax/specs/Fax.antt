@@ -65,7 +65,7 @@ bodySized Page n = isPage n
 bodySized EndOfFrame n = eqb n 3
 bodySized Abort n = eqb n 3
 
--- the same, by whether the command is data, and by the octets behind another one
+-- the same in two parts: whether a command is data, and the octets behind one that is not
 abbrev pub isData : Command → Bool
 isData Off = false
 isData (On hdlc modulation frequency) = false

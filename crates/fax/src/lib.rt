@@ -111,7 +111,7 @@ fn front_size(stamp: Stamp, command: Command) -> usize
     1 + stamp_size(stamp) + command_size(command)
 }
 
-// 3 octets, or 12 to 72 by twelves: each of document 01's numbers, with no table of them.
+// 3 octets, or 12 to 72 by twelves: document 01's numbers.
 fn is_page(octets: usize) -> bool
     ensures { λ r. ⌜ r ≡ isPage octets ⌝ }
 {

@@ -44,7 +44,7 @@ const NONE: SubFrame = SubFrame {
     last: false,
 };
 
-// Checks all headers of a frame.
+// Checks all headers of a frame, and lists its sub-frames.
 pub fn open(frame: &[u8]) -> Opened
     ensures { λ r. ⌜ r ≡ answer (opening (now (frame .entry))) ⌝ }
 {

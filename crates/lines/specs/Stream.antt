@@ -1,5 +1,5 @@
--- A recording listed piece by piece: lines are kept until they are whole, each is listed under its number, and every line takes
--- a number, refused or not (document 01, "Listing program").
+-- A recording listed piece by piece: a line that a piece has whole is listed from it, one that goes on is kept until it is
+-- whole; each is listed under its number, and every line takes a number, refused or not (document 01, "Listing program").
 use Prim.Native.Nat.{ℕ, zero, suc, _+_, _-_, _<_, _≤_}
 use mathlib.Core.Path.{_≡_}
 use mathlib.Core.List.{List, [], _∷_, _++_}
@@ -46,7 +46,7 @@ haveOf have kept piece = have + length (toKeep (length kept) have piece)
 abbrev pub wholeListing : List ℕ → ℕ → ℕ → List ℕ → List ℕ → List ℕ
 wholeListing table n have kept piece = lineListing n table (take (haveOf have kept piece) (keptOf have kept piece))
 
--- the listing of a whole line, and the room for a line behind it: where nothing is kept, the line is listed from the piece
+-- the listing of a whole line, from the piece where nothing of it is kept; and what the room for a line holds after it
 abbrev pub nextListing : List ℕ → ℕ → ℕ → List ℕ → List ℕ → List ℕ
 nextListing table n have kept piece =
     cond (eqb have 0) (lineListing n table (take (lineSize piece) piece)) (wholeListing table n have kept piece)

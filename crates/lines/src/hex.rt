@@ -7,7 +7,7 @@ ghost use Rattle.lines.specs.Hex.{decoded, PairsRead, Paired, answer, oc
 
 const MOST_OCTETS: usize = 1600;
 
-// The value of each character `0` to `9`, `a` to `f`, and 512 of any other, which two octets do not reach.
+// The value of each character `0` to `9`, `a` to `f`, and 512 of any other, which the sum of two octets does not reach.
 const HEX: [u16; 256] = [
     512,
     512,

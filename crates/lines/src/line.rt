@@ -58,8 +58,8 @@ pub(crate) fn read_line(line: &[u8], frame: &mut [u8]) -> LineRead
     LineRead::BadLine(refusal::HEX_MALFORMED)
 }
 
-// Reads an ordinary line that a text starts with: `frame=`, pairs of hex characters, LF. Answers its octets, and 0 where the line is
-// another.
+// Reads an ordinary line that a text starts with: `frame=`, pairs of hex characters, LF. Answers how many octets the line takes with its
+// LF, and 0 where the line is another.
 pub(crate) fn ordinary(s: &[u8], frame: &mut [u8]) -> usize
     requires { ⌜ length (now frame) ≡ 1600 ⌝ }
     ensures { λ r. ⌜ (0 < r → Ordinary (now (s .entry)) (now (frame .exit)) r) ⌝ }

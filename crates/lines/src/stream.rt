@@ -146,7 +146,9 @@ fn list_next(
     list_begun(piece, have, number, kept, table, out, used)
 }
 
-// Lists the lines of a piece, to its end or to where the room for a listing runs short. What it has of a line that goes on is kept.
+// Lists the lines of a piece, to its end or to where the room for a listing runs short. What it has of a line that goes on is
+// kept. With room for less than MOST_KEPT octets in `kept`, a line that goes from one piece to the next is listed by its start
+// alone.
 pub fn list_piece(
     piece: &[u8],
     begun: Begun,

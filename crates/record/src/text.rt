@@ -41,7 +41,7 @@ pub fn read_text(text: &[u8], table: &mut [u16; 256]) -> TextAnswer
     let mut before: u8 = 0;
     let mut at: usize = 0;
     let mut blocks: usize = 0;
-    // Blocks in one go, up to the first of which nothing is told so; from there on line by line.
+    // Blocks are read in one go up to the first that is not told so; from there on line by line.
     loop {
         match crate::block::block_at(text, at, before) {
             Block::Complete { cid, made, end } => {

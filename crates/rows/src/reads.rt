@@ -40,7 +40,7 @@ fn handed(acc: u64, octets: &[u8]) -> u64 {
     octet(fold(acc, octets.len() as u64), octets::octet(octets, 0))
 }
 
-// A frame opened, and every payload read.
+// A frame checked, then each header and payload read.
 fn read(acc: u64, frame: &[u8], table: &[u16; 256]) -> u64 {
     let checked = frame::opening::check(frame);
     let number = checked.number;

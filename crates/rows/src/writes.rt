@@ -262,7 +262,7 @@ fn write_data(acc: u64, writer: Writer, frame: &mut [u8], m: &[u8], table: &[u16
     }
 }
 
-// A frame written from each item; the whole room is folded where all is.
+// A frame written from each item; with `all`, the whole room is folded too.
 pub fn write_each(
     input: &mut [u8],
     works: u64,

@@ -94,6 +94,7 @@ fn first_eight(samples: [u8; 10]) -> u64
 fn ten_allowed(samples: [u8; 10]) -> bool
     ensures { λ r. ⌜ r ≡ allAllowed 10 0 samples ⌝ }
 {
+    // f0 eight times, in hex
     if first_eight(samples) & 17361641481138401520 == 0 {
         return samples[8] | samples[9] < 16;
     }
@@ -104,6 +105,7 @@ fn ten_allowed(samples: [u8; 10]) -> bool
 fn all_equal(sample: u8, samples: [u8; 10]) -> bool
     ensures { λ r. ⌜ r ≡ allEqual sample 10 0 samples ⌝ }
 {
+    // 01 eight times, in hex
     if first_eight(samples) == wide(sample) * 72340172838076673 {
         return wide(samples[8]) + wide(samples[9]) * 256 == wide(sample) * 257;
     }
