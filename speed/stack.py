@@ -9,6 +9,9 @@ import struct
 import subprocess
 import sys
 
+# A function that calls itself, and how deep: four digits a call, of the 20 that a number of 64 bits has.
+DEPTHS = {"lines::field::put_number": 5}
+
 
 def sections(data):
     """(name, link, bytes) of each section of an ELF file for x86-64."""
@@ -48,7 +51,9 @@ def calls(objdump, path):
             name = m.group(1)
             out[name] = set()
             where[name] = section
-        elif m := re.search(r"R_X86_64_PLT32\s+(\S+?)(?:[-+]0x[0-9a-f]+)?$", line):
+        elif m := re.search(r"R_X86_64_P(?:LT|C)32\s+(?:\.text\.)?(\S+?)(?:[-+]0x[0-9a-f]+)?$", line):
+            out[name].add(m.group(1))
+        elif m := re.search(r"\bcall\s+[0-9a-f]+ <([^+>]+)>$", line):
             out[name].add(m.group(1))
     return out, where
 
@@ -59,25 +64,27 @@ def deepest(objdump, path):
     callees, where = calls(objdump, path)
 
     def deep(name, above=()):
-        if name in above:
-            sys.exit(f"{name} calls itself")
         if name not in callees:
             return 0  # memcpy, memset, read or write, of the C library
-        return 8 + sizes[where[name]] + max([deep(n, above + (name,)) for n in callees[name]], default=0)
+        if name in above:
+            sys.exit(f"{name} calls itself")
+        own = 8 + sizes[where[name]]
+        others = callees[name] - {name} if name in DEPTHS else callees[name]
+        return DEPTHS.get(name, 1) * own + max([deep(n, above + (name,)) for n in others], default=0)
 
     return {name: deep(name) for name in callees}
 
 
 def public():
-    """The public functions of the libraries, as crate::module::name."""
+    """The public functions of the libraries, as crate::module::name; those for C by their own name."""
     for path in sorted(glob.glob("crates/*/src/**/*.rt", recursive=True)):
         crate = path.split("/")[1]
         if os.path.exists(f"crates/{crate}/src/main.rt"):
             continue
         module = path.split("/src/")[1][:-3].replace("/", "::")
         with open(path, encoding="utf-8") as file:
-            for name in re.findall(r"^pub fn (\w+)", file.read(), re.M):
-                yield f"{crate}::{name}" if module == "lib" else f"{crate}::{module}::{name}"
+            for c, name in re.findall(r'^pub (extern "C" )?fn (\w+)', file.read(), re.M):
+                yield name if c else f"{crate}::{name}" if module == "lib" else f"{crate}::{module}::{name}"
 
 
 def main(objdump, *paths):
