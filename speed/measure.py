@@ -57,7 +57,7 @@ def same_answers(rows, listing, plain):
 
 
 def timed(rows, plain, name):
-    """The best times of both for as many works, less that of the walk over the items alone."""
+    """How many works, and the best times for them: proved, plain C, and of each the walk over the items alone."""
     def data(works, letter=None):
         whole = inputs.timing(name, works)
         return whole if letter is None else letter + whole[1:]
@@ -71,7 +71,7 @@ def timed(rows, plain, name):
     for _ in range(TURNS):
         for i, (command, letter) in enumerate([(rows, None), (plain, None), (rows, b"n"), (plain, b"n")]):
             best[i] = min(best[i], seconds(command, data(works, letter)))
-    return works, best[0] - best[2], best[1] - best[3]
+    return works, best
 
 
 def best_of(command, data):
@@ -81,21 +81,23 @@ def best_of(command, data):
 def main(rows, listing, plain, copy):
     record = same_answers(rows, listing, plain)
     logs, each = [], {}
-    print(f"best of {TURNS} by turns; the walk over the inputs is taken off both\n")
-    print("| work | proved / plain C |")
-    print("|---|---|")
+    print(f"proved / plain C, best of {TURNS} by turns; first without, then with the walk over the inputs\n")
+    print("| work | ratio | with the walk |")
+    print("|---|---|---|")
     for name, what in ROWS.items():
-        works, ours, theirs = timed(rows, plain, name)
+        works, best = timed(rows, plain, name)
+        ours, theirs = best[0] - best[2], best[1] - best[3]
         each[name] = ours / works
-        logs.append(math.log(ours / theirs))
-        print(f"| {what} | {ours / theirs:.2f} |", flush=True)
+        logs.append((math.log(ours / theirs), math.log(best[0] / best[1])))
+        print(f"| {what} | {ours / theirs:.2f} | {best[0] / best[1]:.2f} |", flush=True)
     ours, theirs = math.inf, math.inf
     for _ in range(TURNS):
         ours = min(ours, seconds(listing, record))
         theirs = min(theirs, seconds(plain + ["list"], record))
-    logs.append(math.log(ours / theirs))
-    print(f"| the listing of {len(record) / 1e6:.0f} MB | {ours / theirs:.2f} |")
-    print(f"| geometric mean | {math.exp(sum(logs) / len(logs)):.2f} |")
+    logs.append((math.log(ours / theirs),) * 2)
+    print(f"| the listing of {len(record) / 1e6:.0f} MB | {ours / theirs:.2f} | {ours / theirs:.2f} |")
+    net, gross = (math.exp(sum(column) / len(logs)) for column in zip(*logs))
+    print(f"| geometric mean | {net:.2f} | {gross:.2f} |")
     print()
     print(f"the listing beside a copy of its input by read and write: {ours / best_of(copy, record):.1f} times")
     one = each["c1"]
