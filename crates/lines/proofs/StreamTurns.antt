@@ -18,7 +18,7 @@ use Rattle.lines.specs.Listing.{lineListing}
 use Rattle.lines.specs.declared.pieces.Kept.{Kept}
 use Rattle.lines.specs.Pieces.{lineSize}
 use Rattle.lines.specs.Pieces.{keeping as keepAnswer}
-use Rattle.lines.specs.Stream.{nextNumber, Walk, stopped, before, keptOf, haveOf, wholeListing, nextListing, keptBehind, walk, Next, answer, lastListed}
+use Rattle.lines.specs.Stream.{nextNumber, Walk, stopped, before, keptOf, haveOf, wholeListing, nextListing, keptBehind, walk, Next, answer, lastListed, linesListed, pieceListed}
 use Rattle.lines.proofs.Appending as appending
 use Rattle.lines.proofs.Ends as ends
 use Rattle.lines.proofs.Keeping as keeping
@@ -323,3 +323,24 @@ module _ (room : ℕ) (table : List ℕ) (begun : Begun) (kept out : List ℕ) w
         simp (ne-eqb (begun .have) 0 some, le-ltb room 6709 h)
         in
         rw is (omega (arith, text .ends), text .holds)
+
+-- by the room for a line
+module _ (room : ℕ) (table : List ℕ) (begun : Begun) (kept piece out₀ : List ℕ) where
+  pub small :
+      length kept < 3207
+      → Promised out₀ (pieceListed room table begun kept piece) (record { taken = 0; used = 0; have = begun .have; number = begun .number }) kept out₀
+  small h = rw (lt-ltb (length kept) 3207 h) (refl, (refl, sym (keeping.written-none out₀ 0)))
+
+  pub there :
+      (r : Listed) (now after : List ℕ)
+      → 3207 ≤ length kept
+      → Promised out₀ (linesListed room table begun kept piece) r now after
+      → Promised out₀ (pieceListed room table begun kept piece) r now after
+  there r now after h p = rw (le-ltb (length kept) 3207 h) p
+
+  pub takes-within : pieceListed room table begun kept piece .taken ≤ length piece
+  takes-within = go (ltb (length kept) 3207)
+    where
+      go : (t : Bool) → cond t (stopped (begun .number) (begun .have) kept) (linesListed room table begun kept piece) .taken ≤ length piece
+      go true = omega arith
+      go false = taken-within (length piece) room table 0 (begun .number) (begun .have) kept piece

@@ -13,6 +13,7 @@ use Rattle.lines.specs.declared.stream.Listed.{Listed}
 use Rattle.lines.specs.Field.{Appended}
 use Rattle.lines.specs.Listing.{lineListing, mostListed}
 use Rattle.lines.specs.Pieces.{lineSize, toKeep}
+use Rattle.lines.specs.Claims.{mostKept}
 
 -- the number after this one, up to the last of 64 bits
 unfoldable pub nextNumber : ℕ → ℕ
@@ -79,8 +80,13 @@ pub record Next (table : List ℕ) (have number used : ℕ) (kept piece out : Li
   pub some : 0 < r .taken
   pub within : r .taken ≤ length piece
 
+abbrev pub linesListed : ℕ → List ℕ → Begun → List ℕ → List ℕ → Walk
+linesListed room table begun kept piece = walk (length piece) room table 0 (begun .number) (begun .have) kept piece
+
+-- the same, where the room for a line is there: with less, nothing is taken
 abbrev pub pieceListed : ℕ → List ℕ → Begun → List ℕ → List ℕ → Walk
-pieceListed room table begun kept piece = walk (length piece) room table 0 (begun .number) (begun .have) kept piece
+pieceListed room table begun kept piece =
+    cond (ltb (length kept) mostKept) (stopped (begun .number) (begun .have) kept) (linesListed room table begun kept piece)
 
 -- the answer of the code
 abbrev pub answer : Walk → Listed

@@ -5,7 +5,7 @@ ghost use Prim.Native.Nat.{_+_, _<_, _≤_};
 ghost use lib.ListN.{length};
 ghost use Rattle.octets.specs.Room.{written};
 ghost use Rattle.lines.specs.Claims.{mostKept};
-ghost use Rattle.lines.specs.Stream.{nextNumber, Next, pieceListed, answer, lastListed};
+ghost use Rattle.lines.specs.Stream.{linesListed, nextNumber, Next, pieceListed, answer, lastListed};
 
 // The room for the present line: the octets that decide its listing (`StartDecides`), that is `frame=`, 3,200 characters, and
 // one more.
@@ -147,18 +147,17 @@ fn list_next(
 }
 
 // Lists the lines of a piece, to its end or to where the room for a listing runs short. What it has of a line that goes on is
-// kept. With room for less than MOST_KEPT octets in `kept`, a line that goes from one piece to the next is listed by its start
-// alone.
-pub fn list_piece(
+// kept.
+fn list_lines(
     piece: &[u8],
     begun: Begun,
     kept: &mut [u8],
     table: &[u16; 256],
     out: &mut [u8],
 ) -> Listed
-    ensures says { λ r. ⌜ r ≡ answer (pieceListed (length (now (out .entry))) (now (table .entry)) begun (now (kept .entry)) (now (piece .entry))) ⌝ }
-    ensures keeps { λ r. ⌜ now (kept .exit) ≡ pieceListed (length (now (out .entry))) (now (table .entry)) begun (now (kept .entry)) (now (piece .entry)) .kept ⌝ }
-    ensures holds { λ r. ⌜ now (out .exit) ≡ written (now (out .entry)) 0 (pieceListed (length (now (out .entry))) (now (table .entry)) begun (now (kept .entry)) (now (piece .entry)) .text) ⌝ }
+    ensures says { λ r. ⌜ r ≡ answer (linesListed (length (now (out .entry))) (now (table .entry)) begun (now (kept .entry)) (now (piece .entry))) ⌝ }
+    ensures keeps { λ r. ⌜ now (kept .exit) ≡ linesListed (length (now (out .entry))) (now (table .entry)) begun (now (kept .entry)) (now (piece .entry)) .kept ⌝ }
+    ensures holds { λ r. ⌜ now (out .exit) ≡ written (now (out .entry)) 0 (linesListed (length (now (out .entry))) (now (table .entry)) begun (now (kept .entry)) (now (piece .entry)) .text) ⌝ }
 {
     let mut have = begun.have;
     let mut number = begun.number;
@@ -195,6 +194,29 @@ pub fn list_piece(
         have,
         number,
     }
+}
+
+// The same, where `kept` has room for MOST_KEPT octets; with less room nothing is taken.
+pub fn list_piece(
+    piece: &[u8],
+    begun: Begun,
+    kept: &mut [u8],
+    table: &[u16; 256],
+    out: &mut [u8],
+) -> Listed
+    ensures says { λ r. ⌜ r ≡ answer (pieceListed (length (now (out .entry))) (now (table .entry)) begun (now (kept .entry)) (now (piece .entry))) ⌝ }
+    ensures keeps { λ r. ⌜ now (kept .exit) ≡ pieceListed (length (now (out .entry))) (now (table .entry)) begun (now (kept .entry)) (now (piece .entry)) .kept ⌝ }
+    ensures holds { λ r. ⌜ now (out .exit) ≡ written (now (out .entry)) 0 (pieceListed (length (now (out .entry))) (now (table .entry)) begun (now (kept .entry)) (now (piece .entry)) .text) ⌝ }
+{
+    if kept.len() < MOST_KEPT {
+        return Listed {
+            taken: 0,
+            used: 0,
+            have: begun.have,
+            number: begun.number,
+        };
+    }
+    list_lines(piece, begun, kept, table, out)
 }
 
 // Lists a last line that lacks its LF, and answers how many octets are listed: none where there is no such line, or no room.

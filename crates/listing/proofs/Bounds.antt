@@ -2,7 +2,7 @@
 use Prim.Native.Nat.{ℕ, _+_, _-_, _≤_}
 use mathlib.Core.Path.{_≡_, sym, ap, _∙_}
 use mathlib.Core.Bool.{Bool, true, false, cond}
-use mathlib.Core.List.{List, _++_}
+use mathlib.Core.List.{List, [], _++_}
 use native.Mathlib.Omega.{arith}
 use lib.Dec.{ltb}
 use lib.ListN.{length, take, drop, length-append, length-take, length-drop}
@@ -70,7 +70,7 @@ module _ (room : ℕ) (table : List ℕ) (begun : Begun) (kept piece : List ℕ)
       omega (
         arith,
         ap (λ (l : Listed). l .taken) is,
-        turns.taken-within (length piece) room table 0 (begun .number) (begun .have) kept piece,
+        turns.takes-within room table begun kept piece [],
       )
 
   pub prints-within : (out after : List ℕ) → after ≡ written out 0 (pieceListed room table begun kept piece .text) → length after ≡ length out → r .used ≤ length after
