@@ -17,7 +17,7 @@ use Rattle.record.specs.Record.{foundAt}
 use Rattle.payload.specs.Content.{payloadRead, numberOf}
 use Rattle.card.specs.declared.handing.Handed.{Handed}
 use Rattle.card.specs.declared.handing.Handed.the-variants.{FromFrame, FromSilence, NotHanded}
-use Rattle.card.specs.Handing.{part, serves, onChannel, firstOf, afterOpening, handed, octetsOf, placeOf, fromFrame, fromSilence, sourceOf}
+use Rattle.card.specs.Handing.{part, serves, afterOpening, handed, octetsOf, placeOf, fromFrame, fromSilence, sourceOf}
 use Rattle.card.specs.Turn.{afterSub}
 
 -- the part of s from a place to an end

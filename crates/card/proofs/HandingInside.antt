@@ -7,12 +7,12 @@ use mathlib.Core.Logic.{⊎-elim}
 use lib.Dec.{eqb}
 use lib.ListN.{length}
 use Rattle.octets.proofs.Order.{lt-or-le, eq-or-ne}
-use Rattle.refusal.specs.Numbers.{sound, fieldEmpty, fieldTooLong, tooManySubFrames}
+use Rattle.refusal.specs.Numbers.{sound, tooManySubFrames}
 use Rattle.frame.specs.declared.header.SubFrame.{SubFrame}
 use Rattle.frame.specs.declared.header.Header.{Header}
 use Rattle.frame.specs.declared.header.Header.the-variants.{Sub, Bad, Past}
 use Rattle.frame.specs.Header.{headerAt}
-use Rattle.frame.specs.Opening.{Opening, stopped, endOf, endOfHeader, onwards, scan}
+use Rattle.frame.specs.Opening.{stopped, endOf, endOfHeader, onwards, scan}
 use Rattle.frame.proofs.HeaderInverse as inverse
 use Rattle.record.specs.declared.table.Found.{Found}
 use Rattle.record.specs.declared.table.Found.the-variants.{Provisioned, Unprovisioned}

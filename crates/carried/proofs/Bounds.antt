@@ -1,6 +1,6 @@
 -- The largest steps, by the laws of the counts.
-use Prim.Native.Nat.{ℕ, _<_, _≤_}
-use mathlib.Core.Path.{_≡_, refl, ap, _∙_}
+use Prim.Native.Nat.{_<_}
+use mathlib.Core.Path.{refl}
 use native.Mathlib.Omega.{arith}
 use Rattle.counts.specs.Round.{step}
 use Rattle.counts.proofs.Laws.{laws}

@@ -1,6 +1,6 @@
 -- The bounds of demand 3, `farthest` of digits and of signalling, are the largest steps there are: each step of a receiver that has
 -- heard a payload lies within, and they are reached. Proved in proofs/Bounds.antt.
-use Prim.Native.Nat.{ℕ, _≤_}
+use Prim.Native.Nat.{_≤_}
 use mathlib.Core.Path.{_≡_}
 use mathlib.Core.Bool.{true, false}
 use Rattle.counts.specs.declared.DigitCount.{DigitCount}

@@ -1,28 +1,25 @@
 -- Digits payloads, written and read: the claims of specs/Claims.antt, and what the code stores.
-use Prim.Native.Nat.{ℕ, zero, suc, _+_, _*_, _/_, _%_, _<_, _≤_}
-use mathlib.Core.Path.{_≡_, refl, sym, ap, ap₂, subst, _∙_}
+use Prim.Native.Nat.{ℕ, zero, suc, _+_, _/_, _%_, _≤_}
+use mathlib.Core.Path.{_≡_, refl, sym, ap, subst, _∙_}
 use mathlib.Core.List.{List, [], _∷_, _++_}
 use mathlib.Core.Bool.{Bool, true, false, cond}
-use mathlib.Core.Logic.{_⊎_, inl, inr, ⊎-elim}
-use native.Mathlib.Nat.{mod-eq-of-lt}
+use mathlib.Core.Logic.{_⊎_, ⊎-elim}
 use native.Mathlib.Omega.{arith}
 use borrow.Author.Tests.{lt-ltb, le-ltb, le-leb, lt-leb, eq-eqb, ne-eqb}
-use lib.Dec.{T, ltb, eqb}
 use lib.ListN.{length, getD}
 use lib.IntN.{ℤ, pos, negsuc, negℤ}
 use Rattle.octets.proofs.Order.{lt-or-le, eq-or-ne, clash, either}
 use Rattle.octets.proofs.MadeBack.{same-made, never-made}
-use Rattle.octets.specs.Octets.{Octets}
-use Rattle.octets.specs.Made.{Made, made, unmade}
+use Rattle.octets.specs.Made.{made}
 use Rattle.levels.specs.declared.Coded.{Coded}
-use Rattle.levels.specs.declared.Coded.the-variants.{Code, Above, Below}
+use Rattle.levels.specs.declared.Coded.the-variants.{Code}
 use Rattle.levels.specs.Level.{levelOf, codeOf}
-use Rattle.levels.proofs.Laws.{code-of-level, level-of-code}
+use Rattle.levels.proofs.Laws.{code-of-level}
 use Rattle.digits.specs.declared.layout.Window.{Window}
 use Rattle.digits.specs.declared.layout.Digits.{Digits}
 use Rattle.digits.specs.declared.layout.DigitsRead.{DigitsRead}
 use Rattle.digits.specs.declared.layout.DigitsRead.the-variants.{Dialled, BadDigits}
-use Rattle.digits.specs.Layout.{windowReserved, windowOut, windowOf, judged, digitsRead, windowWrong, windowOctets, levelLow, levelCode, digitsOctets, digitsMade}
+use Rattle.digits.specs.Layout.{windowReserved, windowOut, windowOf, judged, windowWrong, windowOctets, levelLow, levelCode, digitsOctets, digitsMade}
 use Rattle.digits.specs.Claims.{normalLevel, normalWindow, normal, DigitsReadBack, heard, unheard, DigitsMadeAgain, DigitsReadAlike}
 use Rattle.digits.proofs.LayoutCases as cases
 

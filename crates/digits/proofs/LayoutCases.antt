@@ -1,15 +1,14 @@
 -- What `judged` and `digitsMade` give in each of their cases.
 use Prim.Native.Nat.{ℕ, _/_, _<_, _≤_}
-use mathlib.Core.Path.{_≡_, refl, sym, ap, _∙_}
+use mathlib.Core.Path.{_≡_, _∙_}
 use mathlib.Core.List.{List}
-use mathlib.Core.Bool.{Bool, true, false, cond}
+use mathlib.Core.Bool.{true, false, cond}
 use borrow.Author.Tests.{lt-ltb, le-ltb, eq-eqb, ne-eqb}
 use lib.ListN.{length, getD}
 use Rattle.refusal.specs.Numbers.{lengthWrong, reservedCode, valueOutOfRange}
-use Rattle.octets.specs.Made.{Made, made, unmade}
+use Rattle.octets.specs.Made.{made, unmade}
 use Rattle.levels.specs.Level.{levelOf, codeOf}
 use Rattle.digits.specs.declared.layout.Digits.{Digits}
-use Rattle.digits.specs.declared.layout.DigitsRead.{DigitsRead}
 use Rattle.digits.specs.declared.layout.DigitsRead.the-variants.{Dialled, BadDigits}
 use Rattle.digits.specs.Layout.{windowReserved, windowOut, windowOf, judged, digitsRead, windowWrong, levelLow, digitsOctets, digitsMade}
 

@@ -5,15 +5,13 @@
 --   2, 3      current window: type (3 bits) and edge (5), then 000 and code (5)
 --   4, 5      recent window
 --   6, 7      previous window
-use Prim.Native.Nat.{ℕ, _+_, _*_, _/_, _%_}
+use Prim.Native.Nat.{ℕ, _+_, _/_, _%_}
 use mathlib.Core.List.{List, [], _∷_, _++_}
 use mathlib.Core.Bool.{Bool, true, false, cond}
 use lib.Dec.{ltb, eqb}
 use lib.ListN.{length, getD}
-use lib.IntN.{ℤ}
 use Rattle.refusal.specs.Numbers.{lengthWrong, reservedCode, valueOutOfRange}
 use Rattle.octets.specs.Made.{Made, made, unmade}
-use Rattle.counts.specs.declared.DigitCount.{DigitCount}
 use Rattle.levels.specs.declared.Coded.{Coded}
 use Rattle.levels.specs.declared.Coded.the-variants.{Code, Above, Below}
 use Rattle.levels.specs.Level.{levelOf, codeOf}

@@ -1,10 +1,10 @@
 // Provisioning texts (document 01, "Provisioning text"): how many blocks are taken, or the refusal and its line.
-use record::text::TextAnswer;
+use provisioning::text::TextAnswer;
 
 // Reads a text into a table, and prints what is answered.
 pub fn text_case(name: &[u8], text: &[u8], table: &mut [u16; 256]) {
     crate::print::name(name);
-    match record::text::read_text(text, table) {
+    match provisioning::text::read_text(text, table) {
         TextAnswer::Taken(blocks) => {
             io::write_all(1, b"taken ");
             io::print_decimal(1, blocks as u64);

@@ -1,14 +1,13 @@
 -- What follows a header, by the tests of `step_short` and `step_long`.
-use Prim.Native.Nat.{ℕ, zero, suc, _+_, _-_, _*_, _/_, _%_, _<_, _≤_}
-use mathlib.Core.Path.{_≡_, refl, sym, ap, subst, _∙_}
+use Prim.Native.Nat.{ℕ, _+_, _-_, _<_, _≤_}
+use mathlib.Core.Path.{_≡_, refl, ap, _∙_}
 use mathlib.Core.List.{List}
-use mathlib.Core.Bool.{true, false, cond}
+use mathlib.Core.Bool.{cond}
 use native.Mathlib.Omega.{arith}
 use lib.Dec.{eqb}
 use lib.ListN.{length, getD}
 use Rattle.refusal.specs.Numbers.{sound, headerCut, cidReserved, spareBitSet, lengthPastField, lastWithLength}
-use Rattle.frame.specs.declared.header.Header.{Header}
-use Rattle.frame.specs.declared.header.Header.the-variants.{Sub, Bad}
+use Rattle.frame.specs.declared.header.Header.the-variants.{Bad}
 use Rattle.frame.specs.declared.opening.Step.the-variants.{Next, Done, Flaw}
 use Rattle.frame.specs.Header.{ei, li, spare, size, cidOf, told, headerAt}
 use Rattle.frame.specs.Checking.{StepAt}

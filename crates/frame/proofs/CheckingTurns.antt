@@ -1,18 +1,14 @@
 -- The loop of `check`: the sub-frames that were passed, which it only counts, and what is still to come of the opening.
 use Prim.Native.Nat.{ℕ, _+_, _-_, _<_, _≤_}
 use mathlib.Core.Path.{_≡_, refl, sym, ap, subst, _∙_}
-use mathlib.Core.List.{List, []}
-use mathlib.Core.Bool.{true, false}
+use mathlib.Core.List.{List}
 use native.Mathlib.Omega.{arith}
 use lib.ListN.{length, replicate, set}
 use Rattle.refusal.specs.Numbers.{sound, fieldEmpty, fieldTooLong, tooManySubFrames}
 use Rattle.frame.specs.declared.header.SubFrame.{SubFrame}
-use Rattle.frame.specs.declared.header.Header.the-variants.{Bad}
 use Rattle.frame.specs.declared.opening.Opened.{Opened}
-use Rattle.frame.specs.declared.opening.Step.{Step}
 use Rattle.frame.specs.declared.opening.Step.the-variants.{Next, Done, Flaw}
-use Rattle.frame.specs.Header.{headerAt}
-use Rattle.frame.specs.Opening.{Opening, stopped, endOf, scan, scanned, opening, unused, answer}
+use Rattle.frame.specs.Opening.{Opening, scanned, opening, unused}
 use Rattle.frame.specs.Checking.{StepAt}
 use Rattle.frame.proofs.OpeningTurns as turns
 

@@ -1,6 +1,6 @@
 -- What `told` gives in each of its cases, and what `headerAt` reads, in the terms of the code.
-use Prim.Native.Nat.{ℕ, zero, suc, _+_, _-_, _*_, _/_, _%_, _<_, _≤_}
-use mathlib.Core.Path.{_≡_, refl, sym, ap, _∙_}
+use Prim.Native.Nat.{ℕ, zero, suc, _+_, _-_, _<_, _≤_}
+use mathlib.Core.Path.{_≡_, refl, ap, _∙_}
 use mathlib.Core.List.{List}
 use mathlib.Core.Bool.{true, false, cond}
 use native.Mathlib.Nat.{add-zero, add-assoc, not-suc-le-zero, le-of-suc-le-suc}
@@ -10,9 +10,8 @@ use lib.Dec.{ltb, eqb}
 use lib.ListN.{length, getD, drop, length-drop}
 use lib.Seq.{getD-drop}
 use Rattle.refusal.specs.Numbers.{headerCut, cidReserved, spareBitSet, lengthPastField, lastWithLength}
-use Rattle.frame.specs.declared.header.Header.{Header}
 use Rattle.frame.specs.declared.header.Header.the-variants.{Sub, Bad, Past}
-use Rattle.frame.specs.Header.{ei, li, lowBits, highBits, spare, payloadType, size, octet1, octet1a, octet1b, cidOf, told, headerAt}
+use Rattle.frame.specs.Header.{ei, li, spare, payloadType, size, octet1, octet1a, octet1b, cidOf, told, headerAt}
 
 module _ (at o a b n : ℕ) where
   pub cut : n < size o → told at o a b n ≡ Bad headerCut

@@ -5,13 +5,12 @@ use mathlib.Core.List.{List}
 use mathlib.Core.Bool.{true, false}
 use mathlib.Core.Logic.{_⊎_, inl, inr, ⊎-elim}
 use native.Mathlib.Omega.{arith}
-use borrow.Author.Tests.{lt-ltb}
 use lib.ListN.{length, drop, length-drop}
 use Rattle.octets.proofs.Order.{lt-or-le, eq-or-ne}
 use Rattle.frame.specs.declared.header.SubFrame.{SubFrame}
 use Rattle.frame.specs.declared.header.Header.{Header}
 use Rattle.frame.specs.declared.header.Header.the-variants.{Sub, Bad, Past}
-use Rattle.frame.specs.Header.{ei, li, lowBits, highBits, spare, payloadType, size, octet1, octet1a, octet1b, cidOf, told, headerAt}
+use Rattle.frame.specs.Header.{li, spare, payloadType, size, octet1, octet1a, octet1b, cidOf, told, headerAt}
 use Rattle.frame.specs.Opening.{endOf}
 use Rattle.frame.proofs.HeaderCases as cases
 

@@ -1,18 +1,16 @@
 -- A header in its shortest form: which octets it has, how many, and what stands in the room once they are stored.
-use Prim.Native.Nat.{ℕ, zero, suc, _+_, _-_, _*_, _/_, _%_, _<_, _≤_}
-use mathlib.Core.Path.{_≡_, refl, sym, ap, _∙_}
-use mathlib.Core.List.{List, [], _∷_, _++_}
-use mathlib.Core.Bool.{Bool, true, false, cond}
+use Prim.Native.Nat.{ℕ, _+_, _-_, _*_, _/_, _%_, _<_, _≤_}
+use mathlib.Core.Path.{_≡_, sym, ap, _∙_}
+use mathlib.Core.List.{List, [], _∷_}
+use mathlib.Core.Bool.{Bool, true, false}
 use mathlib.Core.Logic.{_⊎_, inl, inr, ⊎-elim}
 use native.Mathlib.Nat.{zero-add}
 use native.Mathlib.Omega.{arith}
 use borrow.Author.Tests.{lt-ltb, le-ltb, eq-eqb, ne-eqb}
-use lib.Dec.{ltb, eqb}
-use lib.ListN.{length, take, drop}
+use lib.ListN.{length}
 use lib.Seq.{sets, sets-eq}
 use Rattle.octets.proofs.Order.{lt-or-le, eq-or-ne}
 use Rattle.refusal.specs.Numbers.{cidReserved, valueOutOfRange, roomTooSmall}
-use Rattle.octets.specs.declared.Put.{Put}
 use Rattle.octets.specs.declared.Put.the-variants.{Written, NotWritten}
 use Rattle.octets.specs.Room.{leftBy}
 use Rattle.frame.specs.Joining.{eiFor, liFor, headerWith, shortestHeader, headerSize, headerPut}

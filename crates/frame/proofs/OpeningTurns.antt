@@ -1,11 +1,10 @@
 -- The loop of `scan`: what stands in the answer's places, and what is still to come of the opening.
-use Prim.Native.Nat.{ℕ, zero, suc, _+_, _-_, _<_, _≤_}
-use mathlib.Core.Path.{_≡_, refl, sym, ap, subst, _∙_}
-use mathlib.Core.List.{List, [], _∷_, _++_, append-assoc, append-nil}
+use Prim.Native.Nat.{ℕ, suc, _+_, _-_, _<_, _≤_}
+use mathlib.Core.Path.{_≡_, refl, sym, ap, _∙_}
+use mathlib.Core.List.{List, [], _∷_, _++_, append-nil}
 use mathlib.Core.Bool.{true, false}
 use mathlib.Core.Logic.{⊎-elim}
 use native.Mathlib.Omega.{arith}
-use native.Mathlib.Numerals.{add-one}
 use borrow.Author.Tests.{lt-ltb, le-ltb, eq-eqb, ne-eqb}
 use lib.ListN.{length, replicate, set, length-append}
 use lib.Seq.{set-at, append-snoc}
@@ -16,7 +15,7 @@ use Rattle.frame.specs.declared.header.Header.{Header}
 use Rattle.frame.specs.declared.header.Header.the-variants.{Sub, Bad, Past}
 use Rattle.frame.specs.declared.opening.Opened.{Opened}
 use Rattle.frame.specs.Header.{headerAt}
-use Rattle.frame.specs.Opening.{Opening, stopped, before, endOf, endOfHeader, onwards, scan, scanned, opening, unused, answer}
+use Rattle.frame.specs.Opening.{Opening, stopped, endOf, endOfHeader, onwards, scan, scanned, opening, unused, answer}
 
 -- sub-frames that were found, before what is still to come
 abbrev pub behind : List SubFrame → Opening → Opening

@@ -1,6 +1,6 @@
 -- Writing headers, and joining sub-frames into a frame (document 01, "Frame and sub-frame"). "Shortest form speaks of headers
 -- alone": what is joined is a CID, a payload type and the payload's octets, whatever they mean.
-use Prim.Native.Nat.{ℕ, _+_, _-_, _*_, _/_, _%_}
+use Prim.Native.Nat.{ℕ, _+_, _*_, _/_, _%_}
 use mathlib.Core.List.{List, [], _∷_, _++_}
 use mathlib.Core.Bool.{Bool, true, false, cond}
 use lib.Dec.{ltb, eqb}

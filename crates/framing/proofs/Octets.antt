@@ -1,14 +1,14 @@
 -- What is joined is octets, and the hypotheses of specs/Claims.antt can be met.
 use Prim.Native.Nat.{ℕ, zero, suc, _+_, _*_, _/_, _%_, _<_, _≤_}
-use mathlib.Core.Path.{_≡_, refl, sym, ap, subst, _∙_}
+use mathlib.Core.Path.{_≡_, refl}
 use mathlib.Core.List.{List, [], _∷_, _++_}
 use mathlib.Core.Bool.{Bool, true, false, cond}
-use mathlib.Core.Logic.{_⊎_, inl, inr, ⊎-elim}
+use mathlib.Core.Logic.{_⊎_, ⊎-elim}
 use native.Mathlib.Omega.{arith}
-use lib.Dec.{T, eqb}
-use lib.ListN.{length, getD, replicate}
+use lib.Dec.{eqb}
+use lib.ListN.{length, replicate}
 use Rattle.octets.specs.Octets.{Octets}
-use Rattle.frame.specs.Joining.{Content, isNone, joined, eiFor, liFor, headerWith, shortestHeader}
+use Rattle.frame.specs.Joining.{Content, isNone, joined, eiFor, liFor, shortestHeader}
 use Rattle.frame.proofs.HeaderWritten.{ei-one-of}
 use Rattle.framing.specs.Claims.{Carriable, Each, Fits, PayloadOctets, JoinedOctets, content, fullest}
 

@@ -1,16 +1,14 @@
 -- A header that was written reads back: `headerAt` at a place from which a header stands.
-use Prim.Native.Nat.{ℕ, zero, suc, _+_, _-_, _*_, _/_, _%_, _<_, _≤_}
-use mathlib.Core.Path.{_≡_, refl, sym, ap, _∙_}
-use mathlib.Core.List.{List, [], _∷_, _++_}
+use Prim.Native.Nat.{ℕ, _+_, _-_, _*_, _/_, _%_, _<_, _≤_}
+use mathlib.Core.Path.{_≡_, sym, ap, _∙_}
+use mathlib.Core.List.{List, _++_}
 use mathlib.Core.Bool.{Bool, true, false, cond}
-use mathlib.Core.Logic.{_⊎_, inl, inr, ⊎-elim}
+use mathlib.Core.Logic.{_⊎_, ⊎-elim}
 use native.Mathlib.Omega.{arith}
 use lib.Dec.{eqb}
-use lib.ListN.{length, getD, drop, length-drop}
-use Rattle.frame.specs.declared.header.SubFrame.{SubFrame}
-use Rattle.frame.specs.declared.header.Header.{Header}
+use lib.ListN.{length, drop, length-drop}
 use Rattle.frame.specs.declared.header.Header.the-variants.{Sub}
-use Rattle.frame.specs.Header.{ei, li, lowBits, highBits, spare, payloadType, size, octet1, octet1a, octet1b, cidOf, told, headerAt}
+use Rattle.frame.specs.Header.{ei, li, lowBits, spare, payloadType, size, octet1, octet1a, octet1b, cidOf, told, headerAt}
 use Rattle.frame.specs.Joining.{liFor, headerWith}
 use Rattle.frame.proofs.HeaderCases as cases
 

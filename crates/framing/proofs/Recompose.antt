@@ -1,22 +1,22 @@
 -- A header that was read is made up again of what it told: the octets from its place on are a header with its EI, the
 -- payload and what follows.
-use Prim.Native.Nat.{ℕ, zero, suc, _+_, _-_, _*_, _/_, _%_, _<_, _≤_}
+use Prim.Native.Nat.{ℕ, _+_, _-_, _*_, _/_, _%_, _<_, _≤_}
 use mathlib.Core.Path.{_≡_, refl, sym, ap, ap₂, subst, _∙_}
-use mathlib.Core.List.{List, [], _∷_, _++_, append-nil}
-use mathlib.Core.Bool.{Bool, true, false, cond}
+use mathlib.Core.List.{List, [], _∷_, _++_}
+use mathlib.Core.Bool.{true, false, cond}
 use mathlib.Core.Logic.{_⊎_, inl, inr, ⊎-elim}
-use native.Mathlib.Nat.{add-zero, not-suc-le-zero, le-of-suc-le-suc}
+use native.Mathlib.Nat.{add-zero}
 use native.Mathlib.Omega.{arith}
 use borrow.Author.Tests.{eq-eqb, ne-eqb}
 use lib.Dec.{T, eqb}
 use lib.ListN.{length, getD, take, drop, length-drop, take-append-drop}
 use lib.Seq.{drop-drop, getD-drop}
-use Rattle.octets.proofs.Order.{lt-or-le, eq-or-ne}
+use Rattle.octets.proofs.Order.{eq-or-ne}
 use Rattle.frame.specs.declared.header.SubFrame.{SubFrame}
 use Rattle.frame.specs.declared.header.Header.the-variants.{Sub}
-use Rattle.frame.specs.Header.{ei, li, lowBits, highBits, spare, payloadType, size, octet1, octet1a, octet1b, cidOf, headerAt}
+use Rattle.frame.specs.Header.{ei, li, spare, payloadType, size, octet1, octet1a, octet1b, cidOf, headerAt}
 use Rattle.frame.specs.Opening.{endOf}
-use Rattle.frame.specs.Joining.{eiFor, liFor, headerWith}
+use Rattle.frame.specs.Joining.{eiFor, headerWith}
 use Rattle.frame.proofs.HeaderWritten.{ei-out}
 use Rattle.frame.proofs.HeaderInverse as inverse
 use Rattle.octets.specs.Octets.{Octets}

@@ -1,14 +1,13 @@
 -- What is joined opens to the same list: `OpensToTheSame` of specs/Claims.antt.
-use Prim.Native.Nat.{ℕ, zero, suc, _+_, _-_, _*_, _/_, _%_, _<_, _≤_}
-use mathlib.Core.Path.{_≡_, refl, sym, ap, ap₂, subst, _∙_}
+use Prim.Native.Nat.{ℕ, zero, suc, _+_, _-_, _*_, _/_, _<_, _≤_}
+use mathlib.Core.Path.{_≡_, refl, sym, ap, _∙_}
 use mathlib.Core.List.{List, [], _∷_, _++_, map, append-nil, append-assoc}
 use mathlib.Core.Bool.{Bool, true, false, cond}
-use mathlib.Core.Logic.{_⊎_, inl, inr, ⊎-elim}
+use mathlib.Core.Logic.{_⊎_, ⊎-elim}
 use native.Mathlib.Nat.{not-suc-le-zero, le-of-suc-le-suc}
 use native.Mathlib.Omega.{arith}
-use lib.Dec.{eqb}
-use lib.ListN.{length, getD, take, drop, length-append, length-drop}
-use lib.Seq.{drop-drop, drop-at, take-at, take-length}
+use lib.ListN.{length, take, drop, length-append}
+use lib.Seq.{drop-drop, drop-at, take-at}
 use Rattle.octets.proofs.Order.{eq-or-ne}
 use Rattle.refusal.specs.Numbers.{sound}
 use Rattle.frame.specs.declared.header.SubFrame.{SubFrame}
@@ -18,8 +17,8 @@ use Rattle.frame.specs.Opening.{Opening, scan, scanned, before, stopped, endOf}
 use Rattle.frame.specs.Joining.{Content, isNone, joined, eiFor, liFor, headerWith, shortestHeader, headerSize}
 use Rattle.frame.proofs.HeaderWritten.{ei-one-of, ei-out, ei-set, size-is, some-room}
 use Rattle.frame.proofs.OpeningTurns as turns
-use Rattle.framing.specs.Claims.{Carriable, Each, Fits, contentOf, list, Sound, OpensToTheSame}
-use Rattle.framing.proofs.ReadBack.{Enough, extension, last-back, more-back}
+use Rattle.framing.specs.Claims.{Each, Fits, contentOf, OpensToTheSame}
+use Rattle.framing.proofs.ReadBack.{Enough, last-back, more-back}
 
 -- the EI that the shortest form writes says enough
 enough : (cid ptype : ℕ) → 4 ≤ cid → ptype ≤ 15 → Enough (eiFor cid ptype) cid ptype

@@ -1,30 +1,28 @@
 -- Every sound frame is as long as the joined form of its list, plus one octet for each needless octet 1a: `AsLongAsJoined`
 -- and `OneShortest` of specs/Claims.antt.
-use Prim.Native.Nat.{ℕ, zero, suc, _+_, _-_, _*_, _/_, _%_, _<_, _≤_}
+use Prim.Native.Nat.{ℕ, zero, suc, _+_, _-_, _<_, _≤_}
 use mathlib.Core.Path.{_≡_, refl, sym, ap, ap₂, subst, _∙_}
-use mathlib.Core.List.{List, [], _∷_, _++_, map, append-nil, append-assoc}
+use mathlib.Core.List.{List, [], _∷_, _++_, map, append-assoc}
 use mathlib.Core.Bool.{Bool, true, false, cond}
-use mathlib.Core.Logic.{_⊎_, inl, inr, ⊎-elim}
-use native.Mathlib.Nat.{not-suc-le-zero, le-of-suc-le-suc}
+use mathlib.Core.Logic.{_⊎_, ⊎-elim}
+use native.Mathlib.Nat.{not-suc-le-zero}
 use native.Mathlib.Omega.{arith}
-use borrow.Author.Tests.{eq-eqb, ne-eqb}
 use lib.Dec.{T, eqb}
 use lib.ListN.{length, getD, take, drop, length-append, length-drop, length-map, drop-of-length-le}
-use lib.Seq.{drop-drop, drop-length, length-take-le}
+use lib.Seq.{length-take-le}
 use Rattle.octets.proofs.Order.{lt-or-le, eq-or-ne}
 use Rattle.refusal.specs.Numbers.{sound}
 use Rattle.octets.specs.Octets.{Octets}
 use Rattle.frame.specs.declared.header.SubFrame.{SubFrame}
-use Rattle.frame.specs.declared.header.Header.{Header}
-use Rattle.frame.specs.declared.header.Header.the-variants.{Sub, Bad}
+use Rattle.frame.specs.declared.header.Header.the-variants.{Sub}
 use Rattle.frame.specs.Header.{ei, octet1, headerAt}
-use Rattle.frame.specs.Opening.{Opening, scan, scanned, opening, onwards, endOfHeader, before, stopped, endOf}
+use Rattle.frame.specs.Opening.{Opening, scan, scanned, opening, before, stopped, endOf}
 use Rattle.frame.specs.Joining.{Content, isNone, joined, eiFor, liFor, headerWith, shortestHeader, headerSize}
 use Rattle.frame.proofs.HeaderWritten.{ei-one-of, with-size, size-is}
 use Rattle.frame.proofs.HeaderInverse as inverse
 use Rattle.frame.proofs.HeaderCases as cases
 use Rattle.frame.proofs.OpeningTurns as turns
-use Rattle.framing.specs.Claims.{Carriable, Each, Fits, contentOf, list, Sound, needless, Longer, AsLongAsJoined, OneShortest}
+use Rattle.framing.specs.Claims.{Carriable, Each, contentOf, list, Sound, needless, AsLongAsJoined, OneShortest}
 use Rattle.framing.proofs.Recompose as made
 use Rattle.framing.proofs.Same as same
 

@@ -1,18 +1,16 @@
 -- The claims of specs/Claims.antt.
 use Prim.Native.Nat.{ℕ, zero, suc, _%_, _≤_, _<_}
 use mathlib.Core.Path.{_≡_, refl, sym, ap, _∙_}
-use mathlib.Core.Bool.{Bool, true, false, cond}
 use mathlib.Core.Logic.{⊎-elim}
 use native.Mathlib.Nat.{mod-eq-of-lt}
 use native.Mathlib.Omega.{arith}
-use borrow.Author.Tests.{le-leb, lt-leb, leb-true}
-use lib.Dec.{leb}
+use borrow.Author.Tests.{le-leb, lt-leb}
 use lib.IntN.{ℤ, pos, negsuc, negℤ}
 use lib.Signed.{_≤ℤ_}
 use Rattle.octets.proofs.Order.{lt-or-le}
 use Rattle.levels.specs.declared.Coded.{Coded}
 use Rattle.levels.specs.declared.Coded.the-variants.{Code, Above, Below}
-use Rattle.levels.specs.Level.{levelOf, codeOf}
+use Rattle.levels.specs.Level.{codeOf}
 use Rattle.levels.specs.Claims.{NeverAbove, CodeOfLevel, LevelOfCode}
 
 down : (n : ℕ) → negℤ (pos n) ≤ℤ pos 0

@@ -6,7 +6,6 @@ use native.Mathlib.Omega.{arith}
 use native.Mathlib.Numerals.{add-one}
 use lib.ListN.{length, getD, set, take, length-append}
 use lib.Seq.{take-suc, take-all}
-use Rattle.octets.specs.Room.{written}
 use Rattle.octets.proofs.Writes as writes
 use Rattle.lines.specs.Decimal.{decimal}
 use Rattle.lines.specs.Field.{field, Appended}

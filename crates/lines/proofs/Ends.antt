@@ -9,7 +9,7 @@ use borrow.Author.Tests.{eq-eqb, ne-eqb}
 use lib.Dec.{eqb}
 use lib.ListN.{length, getD, drop, drop-of-length-le}
 use lib.Seq.{drop-cons}
-use Rattle.record.specs.Value.{starts}
+use Rattle.octets.specs.Text.{starts}
 use Rattle.lines.specs.Field.{frameKey}
 use Rattle.lines.specs.Pieces.{textFrom, lineSize}
 

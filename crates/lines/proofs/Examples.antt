@@ -2,10 +2,11 @@
 use Prim.Native.Nat.{ℕ}
 use mathlib.Core.Path.{_≡_, refl}
 use mathlib.Core.List.{List, [], _∷_}
-use Rattle.record.specs.Value.{starts, hasLf, digitOf, thirdDigit, secondDigit, numberBy, numberLine, wordAmong}
-use Rattle.record.specs.Line.{cidBy, syntaxBy, mBy, seqBy, syntaxLine}
+use Rattle.octets.specs.Text.{starts, hasLf}
+use Rattle.provisioning.specs.Value.{digitOf, thirdDigit, secondDigit, numberBy, numberLine, wordAmong}
+use Rattle.provisioning.specs.Line.{cidBy, syntaxBy, mBy, seqBy, syntaxLine}
 use Rattle.record.specs.Record.{syntaxAt, packed, meaning, foundAt}
-use Rattle.record.specs.Text.{walk, reading}
+use Rattle.provisioning.specs.Text.{walk, reading}
 use Rattle.frame.specs.Header.{told, headerAt}
 use Rattle.frame.specs.Opening.{scan, scanned, opening}
 use Rattle.payload.specs.Layout.{onVoice, onFax, onData}

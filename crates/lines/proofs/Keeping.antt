@@ -11,7 +11,7 @@ use Rattle.octets.specs.declared.Put.the-variants.{Written, NotWritten}
 use Rattle.octets.specs.Room.{put, written, leftBy}
 use Rattle.octets.proofs.Order.{lt-or-le}
 use Rattle.octets.proofs.Writes as writes
-use Rattle.record.specs.Value.{hasLf}
+use Rattle.octets.specs.Text.{hasLf}
 use Rattle.lines.specs.declared.pieces.Line.{Line}
 use Rattle.lines.specs.declared.pieces.Kept.{Kept}
 use Rattle.lines.specs.Pieces.{lineSize, lineEnd, toKeep, keeping}

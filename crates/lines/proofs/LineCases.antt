@@ -9,8 +9,8 @@ use borrow.Author.Tests.{lt-ltb, le-ltb, eq-eqb, ne-eqb}
 use lib.ListN.{length, getD, take, drop, length-take, drop-of-length-le}
 use Rattle.octets.proofs.Order.{lt-or-le}
 use Rattle.refusal.specs.Numbers.{fieldTooLong, hexMalformed}
-use Rattle.record.specs.Value.{starts}
-use Rattle.record.proofs.Values as values
+use Rattle.octets.specs.Text.{starts}
+use Rattle.provisioning.proofs.Values as values
 use Rattle.lines.specs.Field.{frameKey}
 use Rattle.lines.specs.declared.line.LineRead.{LineRead}
 use Rattle.lines.specs.declared.line.LineRead.the-variants.{Octets, BadLine}

@@ -11,7 +11,7 @@ use lib.ListN.{length, getD, take}
 use lib.Seq.{take-all, getD-take, length-take-le}
 use Rattle.octets.proofs.Order.{lt-or-le, eq-or-ne, either}
 use Rattle.refusal.specs.Numbers.{fieldTooLong}
-use Rattle.record.specs.Value.{starts}
+use Rattle.octets.specs.Text.{starts}
 use Rattle.lines.specs.Field.{frameKey}
 use Rattle.lines.specs.Hex.{refused}
 use Rattle.lines.specs.Line.{lineRead}

@@ -9,8 +9,8 @@ use lib.Dec.{ltb}
 use lib.ListN.{length, getD, take, drop, length-append, length-drop, take-append-drop}
 use lib.Seq.{append-snoc, drop-cons, take-append-seam, length-take-le, getD-append-seam, getD-append-add, getD-drop}
 use Rattle.refusal.specs.Numbers.{hexMalformed}
-use Rattle.record.specs.Value.{starts, hasLf}
-use Rattle.record.proofs.Values as values
+use Rattle.octets.specs.Text.{starts, hasLf}
+use Rattle.provisioning.proofs.Values as values
 use Rattle.lines.specs.Field.{frameKey}
 use Rattle.lines.specs.Hex.{Decoded, octets, refused, hexValue, behind, octetThen, decoded, Paired}
 use Rattle.lines.specs.Line.{lineRead, Ordinary}

@@ -9,8 +9,8 @@ use lib.Dec.{ltb}
 use lib.ListN.{length, take, drop, length-drop, drop-of-length-le}
 use lib.Seq.{drop-drop}
 use Rattle.octets.specs.Room.{written}
-use Rattle.record.specs.Value.{hasLf}
-use Rattle.record.proofs.Values as values
+use Rattle.octets.specs.Text.{hasLf}
+use Rattle.provisioning.proofs.Values as values
 use Rattle.lines.specs.declared.stream.Begun.{Begun}
 use Rattle.lines.specs.declared.stream.Listed.{Listed}
 use Rattle.lines.specs.Field.{Appended}

@@ -10,9 +10,9 @@ use lib.ListN.{take}
 use lib.Seq.{take-nil, take-take, length-take-le}
 use Rattle.octets.proofs.Order.{lt-or-le}
 use Rattle.refusal.specs.Numbers.{textTooLong}
-use Rattle.record.specs.Value.{starts}
-use Rattle.record.specs.Text.{refused, taken, Entry, reading}
-use Rattle.record.proofs.Turns as texts
+use Rattle.octets.specs.Text.{starts}
+use Rattle.provisioning.specs.Text.{refused, taken, Entry, reading}
+use Rattle.provisioning.proofs.Turns as texts
 use Rattle.lines.specs.Field.{frameKey}
 use Rattle.lines.specs.Pieces.{textFrom, textEnd}
 use Rattle.lines.specs.Claims.{textRead, FirstPieceDecides, FirstPieceEnds}

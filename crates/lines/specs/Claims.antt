@@ -4,7 +4,7 @@ use Prim.Native.Nat.{ℕ, _+_, _-_, _*_, _<_, _≤_}
 use mathlib.Core.Path.{_≡_}
 use mathlib.Core.List.{List, [], _∷_}
 use lib.ListN.{length, take}
-use Rattle.record.specs.Text.{Reading, taken, Entry, reading}
+use Rattle.provisioning.specs.Text.{Reading, taken, Entry, reading}
 use Rattle.lines.specs.Decimal.{decimal}
 use Rattle.lines.specs.Listing.{lineListing}
 use Rattle.lines.specs.Pieces.{textEnd, lineSize}

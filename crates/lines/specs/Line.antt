@@ -7,7 +7,7 @@ use mathlib.Core.Bool.{Bool, true, cond}
 use lib.Dec.{ltb, eqb}
 use lib.ListN.{length, getD, take, drop}
 use Rattle.refusal.specs.Numbers.{fieldTooLong, hexMalformed}
-use Rattle.record.specs.Value.{starts, hasLf}
+use Rattle.octets.specs.Text.{starts, hasLf}
 use Rattle.lines.specs.Field.{lf, frameKey}
 use Rattle.lines.specs.Hex.{Decoded, octets, refused, decoded}
 use Rattle.lines.specs.Pieces.{lineSize}

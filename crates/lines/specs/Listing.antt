@@ -10,7 +10,7 @@ use Rattle.octets.specs.declared.Put.the-variants.{Written, NotWritten}
 use Rattle.frame.specs.declared.header.SubFrame.{SubFrame}
 use Rattle.frame.specs.Opening.{Opening, opening}
 use Rattle.record.specs.Record.{foundAt}
-use Rattle.record.specs.Text.{Reading, refused, taken, reading, tableOf}
+use Rattle.provisioning.specs.Text.{Reading, refused, taken, reading, tableOf}
 use Rattle.payload.specs.Content.{payloadRead, numberOf}
 use Rattle.lines.specs.Field.{frameKey, subsKey, cidKey, typeKey, lenKey, answerKey, refusedKey, atKey, textKey, lineKey, field}
 use Rattle.lines.specs.Hex.{Decoded, octets}

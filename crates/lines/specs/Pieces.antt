@@ -5,7 +5,7 @@ use mathlib.Core.List.{List, [], _∷_}
 use mathlib.Core.Bool.{Bool, true, cond, _&&_}
 use lib.Dec.{eqb}
 use lib.ListN.{length, take}
-use Rattle.record.specs.Value.{starts, hasLf}
+use Rattle.octets.specs.Text.{starts, hasLf}
 use Rattle.lines.specs.declared.pieces.Line.{Line}
 use Rattle.lines.specs.declared.pieces.Kept.{Kept}
 use Rattle.lines.specs.Field.{lf, frameKey}

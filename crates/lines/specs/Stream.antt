@@ -7,7 +7,7 @@ use mathlib.Core.Bool.{cond}
 use lib.Dec.{ltb, eqb}
 use lib.ListN.{length, take, drop}
 use Rattle.octets.specs.Room.{written}
-use Rattle.record.specs.Value.{hasLf}
+use Rattle.octets.specs.Text.{hasLf}
 use Rattle.lines.specs.declared.stream.Begun.{Begun}
 use Rattle.lines.specs.declared.stream.Listed.{Listed}
 use Rattle.lines.specs.Field.{Appended}

@@ -2,7 +2,7 @@
 ghost use mathlib.Core.Path.{_≡_};
 ghost use Prim.Native.Nat.{_<_};
 ghost use lib.ListN.{length, take};
-ghost use Rattle.record.specs.Value.{starts};
+ghost use Rattle.octets.specs.Text.{starts};
 ghost use Rattle.lines.specs.Field.{frameKey};
 ghost use Rattle.lines.specs.Hex.{answer, octetsOf, sizeOf};
 ghost use Rattle.lines.specs.Line.{lineRead, Ordinary};

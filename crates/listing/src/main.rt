@@ -2,7 +2,7 @@
 // has the crate `lines` list, and prints, in fixed memory.
 use lines::stream::Begun;
 use octets::Put;
-use record::text::TextAnswer;
+use provisioning::text::TextAnswer;
 ghost use Prim.Native.Nat.{_≤_};
 ghost use lib.ListN.{length};
 
@@ -94,7 +94,7 @@ fn main() {
     let mut table = [0u16; 256];
     let n = io::read_full(libc::STDIN_FILENO, &mut input);
     let end = lines::pieces::text_end(&input[..n]);
-    match record::text::read_text(&input[..end], &mut table) {
+    match provisioning::text::read_text(&input[..end], &mut table) {
         TextAnswer::Taken(_) => {
             list_rest(&mut input, end, n, &mut kept, &table, &mut out);
         }

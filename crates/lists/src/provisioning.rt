@@ -52,5 +52,5 @@ pub fn provision(table: &mut [u16; 256]) {
         cid=234\nsyntax=g727\nm=12\nseq=1\n\
         cid=255\nsyntax=g728\nm=12\nseq=1\n";
     io::write_all(1, text);
-    record::text::read_text(text, table);
+    provisioning::text::read_text(text, table);
 }

@@ -3,7 +3,7 @@ use Prim.Native.Nat.{ℕ}
 use mathlib.Core.List.{List}
 use lib.ListN.{length}
 use Rattle.octets.specs.declared.Put.{Put}
-use Rattle.octets.specs.declared.Put.the-variants.{Written, NotWritten}
+use Rattle.octets.specs.declared.Put.the-variants.{NotWritten}
 use Rattle.octets.specs.declared.Fit.{Fit}
 use Rattle.octets.specs.declared.Fit.the-variants.{Octets, Unfit}
 use Rattle.octets.specs.Room.{put, leftBy}

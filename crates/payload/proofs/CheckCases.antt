@@ -22,7 +22,7 @@ use Rattle.digits.specs.Layout.{digitsRead}
 use Rattle.signalling.specs.declared.layout.SignallingRead.{SignallingRead}
 use Rattle.signalling.specs.Layout.{signallingRead}
 use Rattle.payload.specs.declared.layout.Layout.{Layout}
-use Rattle.payload.specs.declared.layout.Layout.the-variants.{OfVoice, OfDigits, OfSignalling, OfFax, OfSid, OfData, NoLayout}
+use Rattle.payload.specs.declared.layout.Layout.the-variants.{OfVoice, OfDigits, OfSignalling, OfFax, OfSid, OfData}
 use Rattle.payload.specs.Layout.{layoutOf}
 use Rattle.payload.specs.Content.{ofVoice, ofDigits, ofSignalling, ofFax, ofSid, ofData, readAs, payloadRead, numberOf}
 

@@ -7,13 +7,12 @@ use native.Mathlib.Omega.{arith}
 use borrow.Author.Tests.{eq-eqb, ne-eqb}
 use mathlib.Core.Bool.{cond}
 use lib.Dec.{eqb}
-use lib.ListN.{length, drop}
-use Rattle.refusal.specs.Numbers.{sound, typeNotAllowed}
+use lib.ListN.{length}
+use Rattle.refusal.specs.Numbers.{sound}
 use Rattle.octets.specs.Octets.{Octets}
 use Rattle.octets.specs.Made.{made}
 use Rattle.octets.proofs.Order.{eq-or-ne}
 use Rattle.record.specs.declared.syntax.Record.{Record}
-use Rattle.record.specs.declared.table.Found.{Found}
 use Rattle.record.specs.declared.table.Found.the-variants.{Provisioned, Unprovisioned}
 use Rattle.voice.specs.declared.voice.VoiceRead.{VoiceRead}
 use Rattle.voice.specs.declared.voice.VoiceRead.the-variants.{Voice, BadVoice}
@@ -32,7 +31,6 @@ use Rattle.digits.specs.declared.layout.DigitsRead.{DigitsRead}
 use Rattle.digits.specs.declared.layout.DigitsRead.the-variants.{Dialled, BadDigits}
 use Rattle.digits.specs.Layout.{digitsRead}
 use Rattle.digits.specs.Claims.{unheard}
-use Rattle.signalling.specs.declared.layout.SignallingRead.{SignallingRead}
 use Rattle.signalling.specs.Layout.{signallingRead}
 use Rattle.voice.proofs.VoiceBack.{voice-made-again}
 use Rattle.voice.proofs.SidBack.{sid-made-again, sid-read-alike}
@@ -45,12 +43,11 @@ use Rattle.payload.specs.declared.layout.Family.the-variants.{VoiceFamil
 use Rattle.payload.specs.declared.layout.Layout.{Layout}
 use Rattle.payload.specs.declared.layout.Layout.the-variants.{OfVoice, OfDigits, OfSignalling, OfFax, OfSid, OfData, NoLayout}
 use Rattle.payload.specs.declared.layout.TypeFor.{TypeFor}
-use Rattle.payload.specs.declared.layout.TypeFor.the-variants.{Typed, NoType}
-use Rattle.payload.specs.declared.layout.Kind.{Kind}
+use Rattle.payload.specs.declared.layout.TypeFor.the-variants.{Typed}
 use Rattle.payload.specs.declared.layout.Kind.the-variants.{AVoice, ADigits, ASignalling, AFax, ASid, AData}
-use Rattle.payload.specs.Layout.{familyOf, onVoice, onFax, onData, layoutIn, layoutOf, typeIn, typeFor}
-use Rattle.payload.specs.Content.{Content, speech, dialled, seized, faxed, silent, fragment, Reading, reads, refused, ofVoice, ofDigits, ofSignalling, ofFax, ofSid, ofData, readAs, kindOf, madeOn, madeAs, payloadMade, payloadRead}
-use Rattle.payload.specs.Claims.{samplesIn, Again, ContentMadeAgain}
+use Rattle.payload.specs.Layout.{familyOf, onVoice, onFax, onData, layoutIn, typeIn}
+use Rattle.payload.specs.Content.{Content, seized, reads, refused, ofVoice, ofDigits, ofSignalling, ofFax, ofSid, ofData, readAs, kindOf, madeOn, madeAs}
+use Rattle.payload.specs.Claims.{samplesIn, ContentMadeAgain}
 
 -- the layout of a family's type, for a record: its record is that one, and its kind is written with that type
 abbrev Right : Family → Record → ℕ → Layout → Type 0

@@ -34,7 +34,7 @@ use Rattle.payload.specs.declared.layout.Layout.the-variants.{OfVoice, O
 use Rattle.payload.specs.declared.layout.TypeFor.{TypeFor}
 use Rattle.payload.specs.declared.layout.TypeFor.the-variants.{Typed, NoType}
 use Rattle.payload.specs.Layout.{familyOf, onVoice, onFax, onData, layoutIn, typeIn}
-use Rattle.payload.specs.Content.{Content, speech, dialled, seized, faxed, silent, fragment, Reading, reads, ofVoice, ofDigits, ofSignalling, ofFax, ofSid, ofData, readAs, kindOf, madeOn, madeAs, payloadMade}
+use Rattle.payload.specs.Content.{Content, speech, dialled, seized, faxed, silent, fragment, reads, ofVoice, ofDigits, ofSignalling, ofFax, ofSid, ofData, readAs, kindOf, madeOn, madeAs, payloadMade}
 use Rattle.payload.specs.Claims.{normalContent, samplesIn, ContentReadsBack}
 
 untyped : {A : Type 0} (n ptype : ℕ) → NoType n ≡ Typed ptype → A

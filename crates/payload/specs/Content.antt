@@ -6,7 +6,7 @@ use mathlib.Core.Bool.{Bool, cond}
 use lib.Dec.{eqb}
 use lib.ListN.{drop}
 use Rattle.refusal.specs.Numbers.{sound, notProvisioned}
-use Rattle.octets.specs.Made.{Made, made, unmade}
+use Rattle.octets.specs.Made.{Made, unmade}
 use Rattle.counts.specs.declared.VoiceCount.{VoiceCount}
 use Rattle.counts.specs.declared.DataCount.{DataCount}
 use Rattle.record.specs.declared.syntax.Record.{Record}

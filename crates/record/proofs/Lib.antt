@@ -1,10 +1,1 @@
 pub mod Packing
-pub mod Values
-pub mod Numbers
-pub mod Lines
-pub mod Blocks
-pub mod Steps
-pub mod Turns
-pub mod TextBack
-pub mod TextTaken
-pub mod Examples

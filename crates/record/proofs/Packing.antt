@@ -15,8 +15,16 @@ use Rattle.record.specs.declared.syntax.Record.{Record}
 use Rattle.record.specs.declared.table.Found.the-variants.{Provisioned, Unprovisioned}
 use Rattle.octets.proofs.Order.{lt-or-le, eq-or-ne}
 use Rattle.record.specs.Record.{mostM, seqListed, legal, place, syntaxAt, packed, unpacked, meaning, foundAt}
-use Rattle.record.proofs.Values.{true-not-false}
-use Rattle.record.proofs.Lines.{most-small}
+use Rattle.octets.proofs.Texts.{true-not-false}
+
+pub most-small : (syntax : Syntax) → mostM syntax ≤ 12
+most-small Acelp = omega arith
+most-small Pcm = omega arith
+most-small G727 = omega arith
+most-small G728 = omega arith
+most-small G7231 = omega arith
+most-small Data = omega arith
+most-small Fax = omega arith
 
 pub place-small : (syntax : Syntax) → place syntax ≤ 7
 place-small Acelp = omega arith

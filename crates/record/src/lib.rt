@@ -1,7 +1,3 @@
-// What is provisioned on each sub-channel, and the text that provisions it (document 01, "Provisioning text").
-mod block;
-mod line;
+// What is provisioned on a sub-channel, and the lent table of it (document 01, "Provisioning text").
 pub mod syntax;
 pub mod table;
-pub mod text;
-mod value;

@@ -17,7 +17,7 @@ fn bit(set: bool) -> u16
 }
 
 // A legal record as a number of the table: the syntax above bit 4, m in bits 4 to 1, seq in bit 0.
-pub(crate) fn pack(given: Record) -> u16
+pub fn pack(given: Record) -> u16
     ensures { λ r. ⌜ r ≡ packed given ⌝ }
 {
     let syntax = given.syntax;

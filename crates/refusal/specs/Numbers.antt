@@ -1,4 +1,5 @@
--- The refusal numbers of document 01, "Refusal numbers", each named once for the definitions, with its words.
+-- The refusal numbers of document 01, "Refusal numbers", and those of document 02 (18, 19, 41 to 49), each named once for the
+-- definitions, with its words.
 use Prim.Native.Nat.{ℕ}
 
 -- no refusal
@@ -69,6 +70,14 @@ codingTypeUnknown = 16
 abbrev pub edgeWithoutChange : ℕ
 edgeWithoutChange = 17
 
+-- a sample or start value breaks the rule of its number of states (wish 4)
+abbrev pub stateNotAllowed : ℕ
+stateNotAllowed = 18
+
+-- older payload (wish 3)
+abbrev pub olderPayload : ℕ
+olderPayload = 19
+
 -- writer: lent room too small
 abbrev pub roomTooSmall : ℕ
 roomTooSmall = 21
@@ -100,3 +109,39 @@ cidNotRising = 33
 -- provisioning: over 8,192 octets
 abbrev pub textTooLong : ℕ
 textTooLong = 34
+
+-- fax data, end-of-frame or abort while no modulation is on (wish 1)
+abbrev pub noModulation : ℕ
+noModulation = 41
+
+-- fax data length against the modulation, or end-of-frame or abort without HDLC (wish 1)
+abbrev pub againstModulation : ℕ
+againstModulation = 42
+
+-- data frame empty or over 4,096 octets, or fragment size out of range (wish 5)
+abbrev pub sizeOutOfRange : ℕ
+sizeOutOfRange = 43
+
+-- fragment without B where no frame is in hand or a number is missing (wish 5)
+abbrev pub fragmentOutOfPlace : ℕ
+fragmentOutOfPlace = 44
+
+-- a coding type other than 6 to 9 (wish 9)
+abbrev pub codingNotConverted : ℕ
+codingNotConverted = 45
+
+-- a run over 64,000 octets (wish 12)
+abbrev pub runTooLong : ℕ
+runTooLong = 46
+
+-- no sub-frame can be kept (wish 13)
+abbrev pub nothingKept : ℕ
+nothingKept = 47
+
+-- syntax outside the profile (wish 14)
+abbrev pub syntaxOutsideProfile : ℕ
+syntaxOutsideProfile = 48
+
+-- acelp's m other than 2 and missing from either list (wish 14)
+abbrev pub mOutsideProfile : ℕ
+mOutsideProfile = 49

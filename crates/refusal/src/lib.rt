@@ -1,5 +1,5 @@
-// The refusal numbers of document 01, "Refusal numbers", each named once for the code; specs/Numbers.antt names them for
-// the definitions, with document 01's words for each.
+// The refusal numbers of document 01, "Refusal numbers", and those of document 02, each named once for the code;
+// specs/Numbers.antt names them for the definitions, with the documents' words for each.
 pub const SOUND: u8 = 0;
 
 pub const FIELD_EMPTY: u8 = 1;
@@ -34,6 +34,10 @@ pub const CODING_TYPE_UNKNOWN: u8 = 16;
 
 pub const EDGE_WITHOUT_CHANGE: u8 = 17;
 
+pub const STATE_NOT_ALLOWED: u8 = 18;
+
+pub const OLDER_PAYLOAD: u8 = 19;
+
 pub const ROOM_TOO_SMALL: u8 = 21;
 
 pub const TOO_LONG_NOT_LAST: u8 = 22;
@@ -49,3 +53,21 @@ pub const VALUE_NOT_LISTED: u8 = 32;
 pub const CID_NOT_RISING: u8 = 33;
 
 pub const TEXT_TOO_LONG: u8 = 34;
+
+pub const NO_MODULATION: u8 = 41;
+
+pub const AGAINST_MODULATION: u8 = 42;
+
+pub const SIZE_OUT_OF_RANGE: u8 = 43;
+
+pub const FRAGMENT_OUT_OF_PLACE: u8 = 44;
+
+pub const CODING_NOT_CONVERTED: u8 = 45;
+
+pub const RUN_TOO_LONG: u8 = 46;
+
+pub const NOTHING_KEPT: u8 = 47;
+
+pub const SYNTAX_OUTSIDE_PROFILE: u8 = 48;
+
+pub const M_OUTSIDE_PROFILE: u8 = 49;

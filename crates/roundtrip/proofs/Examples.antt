@@ -2,21 +2,21 @@
 use Prim.Native.Nat.{ℕ, zero, suc, _≤_}
 use mathlib.Core.Path.{_≡_, refl}
 use mathlib.Core.List.{List, [], _∷_, _++_}
-use mathlib.Core.Bool.{true, false}
+use mathlib.Core.Bool.{true}
 use native.Mathlib.Omega.{arith}
-use lib.ListN.{length, replicate}
+use lib.ListN.{replicate}
 use Rattle.octets.specs.Room.{written}
 use Rattle.record.specs.Record.{packed, meaning, foundAt, syntaxAt}
 use Rattle.frame.specs.Joining.{joined, shortestHeader}
 use Rattle.frame.specs.Joining as joining
-use Rattle.framing.specs.Claims.{Carriable, Each, Fits}
+use Rattle.framing.specs.Claims.{Each, Fits}
 use Rattle.voice.specs.Voice.{voiceMade, bodyOctets, blockOctets, frontOf}
 use Rattle.voice.specs.Sid.{sidMade}
 use Rattle.data.specs.Data.{dataMade}
 use Rattle.fax.specs.Fax.{faxMade, bodySized}
 use Rattle.digits.specs.Layout.{digitsMade}
 use Rattle.signalling.specs.Layout.{signallingMade, allAllowed, pairs}
-use Rattle.roundtrip.specs.Demand2.{Sub, Stated, AllStated, AllMade, Legal}
+use Rattle.roundtrip.specs.Demand2.{Sub, Stated, AllStated, AllMade}
 use Rattle.roundtrip.specs.Examples.{table, spoken, fragments, everyKind, fullest, EveryKindLegal, FullestLegal}
 use Rattle.octets.proofs.Order.{clash}
 use Rattle.payload.specs.Claims.{samplesIn}

@@ -1,7 +1,7 @@
 -- The writer fed a list: what it leaves is the joined form of the contents, from where it stood.
-use Prim.Native.Nat.{ℕ, _+_, _<_, _≤_}
-use mathlib.Core.Path.{_≡_, refl, sym, ap, ap₂, _∙_}
-use mathlib.Core.List.{List, [], _∷_, _++_, append-assoc, append-nil}
+use Prim.Native.Nat.{ℕ, _+_, _≤_}
+use mathlib.Core.Path.{_≡_, refl, sym, ap, _∙_}
+use mathlib.Core.List.{List, [], _∷_, _++_, append-nil}
 use mathlib.Core.Bool.{Bool, true, false}
 use native.Mathlib.Nat.{add-zero}
 use native.Mathlib.Omega.{arith}
@@ -13,12 +13,12 @@ use Rattle.record.specs.Record.{foundAt}
 use Rattle.frame.specs.Joining.{joined, isNone, headerSize, shortestHeader}
 use Rattle.frame.specs.Joining as joining
 use Rattle.frame.proofs.HeaderWritten as header
-use Rattle.framing.specs.Claims.{Carriable, Each}
+use Rattle.framing.specs.Claims.{Each}
 use Rattle.payload.specs.Content.{Content}
 use Rattle.writer.specs.declared.place.Writer.{Writer}
-use Rattle.writer.specs.Writer.{tooLong, Writing, writes, refuses, writing, leftWriting}
+use Rattle.writer.specs.Writer.{tooLong, Writing, writes, refuses, leftWriting}
 use Rattle.writer.proofs.WriteBack.{Took, took-back}
-use Rattle.roundtrip.specs.Demand2.{Sub, AllStated, isLast, Fed, took, stopped, after, onwards, first, fed, AllMade}
+use Rattle.roundtrip.specs.Demand2.{Sub, AllStated, isLast, took, stopped, after, onwards, first, fed, AllMade}
 
 -- where a writer may stand
 pub record Standing (w : Writer) (frame : List ℕ) : Type 0 where

@@ -1,13 +1,12 @@
 -- The same list in less room: what fits is written alike, and the first that does not fit gets 21.
 use Prim.Native.Nat.{ℕ, _+_, _-_, _<_, _≤_}
-use mathlib.Core.Path.{_≡_, refl, sym, ap, ap₂, _∙_}
+use mathlib.Core.Path.{_≡_, refl, sym, ap, _∙_}
 use mathlib.Core.List.{List, [], _∷_, _++_}
-use mathlib.Core.Bool.{Bool, true, false}
 use mathlib.Core.Logic.{⊎-elim}
 use native.Mathlib.Nat.{add-zero, zero-add}
 use native.Mathlib.Omega.{arith}
 use lib.ListN.{length, take, drop, length-append, take-append-drop}
-use lib.Seq.{take-at, drop-drop, drop-at, length-take-le, take-append-le, take-take}
+use lib.Seq.{take-at, drop-drop, drop-at, length-take-le, take-append-le}
 use Rattle.refusal.specs.Numbers.{roomTooSmall}
 use Rattle.octets.specs.Room.{written}
 use Rattle.octets.proofs.Order.{lt-or-le}
@@ -17,9 +16,9 @@ use Rattle.frame.specs.Joining.{joined}
 use Rattle.writer.specs.declared.place.Writer.{Writer}
 use Rattle.writer.specs.Writer.{freshWriter, Writing, writes, refuses, writing, leftWriting}
 use Rattle.writer.proofs.WriteBack.{too-small, large-enough}
-use Rattle.roundtrip.specs.Demand2.{Sub, AllStated, isLast, Fed, took, stopped, after, onwards, first, fed, Legal, CutShort, LessRoom}
+use Rattle.roundtrip.specs.Demand2.{Sub, AllStated, isLast, took, stopped, after, onwards, first, fed, LessRoom}
 use Rattle.roundtrip.proofs.RoundTrip.{some}
-use Rattle.roundtrip.proofs.Feeding.{Standing, Run, feeding, same-took, first-taken, fits-room, size, next-stands, done-as, counts-on}
+use Rattle.roundtrip.proofs.Feeding.{Standing, feeding, same-took, first-taken, fits-room, size, next-stands, done-as, counts-on}
 
 -- the room up to the end of what is written, and beyond it
 written-take : (room octets : List ℕ) (at : ℕ) → at + length octets ≤ length room → take (at + length octets) (written room at octets) ≡ take at room ++ octets

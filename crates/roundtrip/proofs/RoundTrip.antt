@@ -2,16 +2,13 @@
 use Prim.Native.Nat.{ℕ, _+_, _≤_}
 use mathlib.Core.Path.{_≡_, refl, sym, ap, ap₂, _∙_, subst}
 use mathlib.Core.List.{List, [], _∷_, _++_, map}
-use mathlib.Core.Bool.{Bool, true, false}
+use mathlib.Core.Bool.{Bool, false}
 use native.Mathlib.Nat.{zero-add}
 use native.Mathlib.Omega.{arith}
 use lib.ListN.{length, take, drop}
 use lib.Seq.{take-append-seam}
-use Rattle.octets.specs.Octets.{Octets}
-use Rattle.octets.specs.Room.{written}
 use Rattle.octets.proofs.Order.{clash}
 use Rattle.record.specs.Record.{foundAt}
-use Rattle.frame.specs.declared.header.SubFrame.{SubFrame}
 use Rattle.frame.specs.Opening.{opening}
 use Rattle.frame.specs.Joining.{joined}
 use Rattle.frame.specs.Joining as joining
@@ -22,8 +19,8 @@ use Rattle.payload.specs.Content.{payloadRead}
 use Rattle.payload.proofs.ContentBack.{content-reads-back}
 use Rattle.writer.specs.declared.place.Writer.{Writer}
 use Rattle.writer.specs.Writer.{freshWriter}
-use Rattle.roundtrip.specs.Demand2.{Sub, Stated, AllStated, isLast, took, fed, Legal, frameOf, Got, gotOf, gotten, sameAs, RoundTrip, WrittenReadsBack, AllMade, end, LegalIsMade}
-use Rattle.roundtrip.proofs.Feeding.{Standing, Run, feeding, same-took}
+use Rattle.roundtrip.specs.Demand2.{Sub, AllStated, isLast, fed, Legal, frameOf, Got, gotten, sameAs, WrittenReadsBack, AllMade, end, LegalIsMade}
+use Rattle.roundtrip.proofs.Feeding.{Run, feeding, same-took}
 
 map-map : {A B C : Type 0} (f : B → C) (g : A → B) (l : List A) → map f (map g l) ≡ map (λ a. f (g a)) l
 map-map f g [] = refl

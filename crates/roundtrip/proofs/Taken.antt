@@ -13,11 +13,11 @@ use Rattle.record.specs.Record.{foundAt}
 use Rattle.frame.specs.Joining.{joined, isNone, headerSize, shortestHeader}
 use Rattle.frame.specs.Joining as joining
 use Rattle.frame.proofs.HeaderWritten as header
-use Rattle.framing.specs.Claims.{Carriable, Each, Fits}
+use Rattle.framing.specs.Claims.{Carriable, Each}
 use Rattle.writer.specs.declared.place.Writer.{Writer}
 use Rattle.writer.specs.Writer.{freshWriter, tooLong, Writing, writes, writing, leftWriting}
 use Rattle.writer.proofs.WriteBack.{takes}
-use Rattle.roundtrip.specs.Demand2.{Sub, isLast, Fed, took, after, onwards, first, fed, AllMade, MadeIsTaken}
+use Rattle.roundtrip.specs.Demand2.{Sub, isLast, took, after, onwards, first, fed, AllMade, MadeIsTaken}
 use Rattle.roundtrip.proofs.Feeding.{last-alike, none-written}
 
 -- the writer after these, from where it stood

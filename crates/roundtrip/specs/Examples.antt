@@ -2,7 +2,7 @@
 -- proofs/Examples.antt, so the hypotheses of demand 2 can be met.
 use Prim.Native.Nat.{ℕ}
 use mathlib.Core.List.{List, [], _∷_, _++_}
-use mathlib.Core.Bool.{Bool, true, false}
+use mathlib.Core.Bool.{true, false}
 use lib.ListN.{replicate}
 use lib.IntN.{pos}
 use Rattle.record.specs.declared.syntax.Syntax.the-variants.{Acelp, Data}
@@ -11,7 +11,6 @@ use Rattle.voice.specs.declared.sid.Sid.the-variants.{Plain}
 use Rattle.fax.specs.declared.Stamp.the-variants.{Stamped}
 use Rattle.fax.specs.declared.Command.the-variants.{Off}
 use Rattle.payload.specs.Content.{speech, dialled, seized, faxed, silent, fragment}
-use Rattle.writer.specs.declared.place.Writer.{Writer}
 use Rattle.roundtrip.specs.Demand2.{Sub, Legal}
 
 -- CID 5 is acelp, one block without a sequence; CID 6 is data.

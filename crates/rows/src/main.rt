@@ -18,7 +18,7 @@ fn main() {
     let low = items::size(&input, 1) as u64;
     let high = items::size(&input, 3) as u64;
     let size = items::size(&input, 5);
-    record::text::read_text(items::part(&input, FRONT, size), &mut table);
+    provisioning::text::read_text(items::part(&input, FRONT, size), &mut table);
     let works = high * 65536 + low;
     let first = FRONT + size;
     let acc = match input[0] {

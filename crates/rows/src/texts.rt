@@ -2,14 +2,14 @@
 use crate::fold::flag;
 use crate::fold::fold;
 use crate::fold::octet;
+use provisioning::text::TextAnswer;
 use record::syntax::Syntax;
 use record::table::Found;
-use record::text::TextAnswer;
 ghost use Prim.Native.Nat.{_≤_};
 
 // A text read; of the table two places, or all, are folded.
 fn read(acc: u64, text: &[u8], table: &mut [u16; 256], all: bool) -> u64 {
-    let said = answer(acc, record::text::read_text(text, table));
+    let said = answer(acc, provisioning::text::read_text(text, table));
     if all {
         return places(said, table);
     }

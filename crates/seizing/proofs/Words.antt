@@ -1,14 +1,14 @@
 -- Ten samples looked at as numbers of eight and of two.
-use Prim.Native.Nat.{ℕ, _+_, _*_, _/_, _%_, _^_, _<_, _≤_}
+use Prim.Native.Nat.{ℕ, _+_, _*_, _/_, _%_, _<_}
 use mathlib.Core.Path.{_≡_, refl, sym, ap₂, _∙_}
 use mathlib.Core.List.{List}
 use mathlib.Core.Bool.{Bool, true, false}
 use native.Mathlib.Omega.{arith}
-use borrow.Author.Tests.{eq-eqb, lt-ltb, eqb-true, eqb-false, ltb-true, ltb-false}
+use borrow.Author.Tests.{eq-eqb, lt-ltb, eqb-true, ltb-true}
 use lib.Bits.{bitAnd, bitOr, and-block, and-mask, and-zero-r, or-lt, or-add-and, and-le-l, and-le-r}
 use lib.Dec.{ltb, eqb}
 use lib.ListN.{getD}
-use Rattle.octets.proofs.Order.{clash, either}
+use Rattle.octets.proofs.Order.{clash}
 use Rattle.signalling.proofs.Samples as samples-of
 use Rattle.signalling.specs.Layout.{allAllowed}
 use Rattle.seizing.specs.Sender.{eight, allEqual}

@@ -1,5 +1,5 @@
 -- One answer only: the public functions of `cabinet`.
-use mathlib.Core.Path.{_≡_, refl, sym, _∙_}
+use mathlib.Core.Path.{refl, sym, _∙_}
 use Rattle.settled.specs.Settled.{OneAnswer, nothing}
 use Rattle.cabinet.proofs.cendraviu_frame_check.Kinds as cendraviu-frame-check-kinds
 use Rattle.cabinet.proofs.cendraviu_frame_check.Reads as cendraviu-frame-check-reads

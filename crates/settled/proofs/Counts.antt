@@ -1,5 +1,5 @@
 -- One answer only: the public functions of `counts`.
-use mathlib.Core.Path.{_≡_, refl, sym, ap, _∙_}
+use mathlib.Core.Path.{refl, sym, ap, _∙_}
 use Prim.Native.Nat.{ℕ}
 use Rattle.counts.specs.declared.DigitCount.{DigitCount}
 use Rattle.counts.specs.declared.SignallingCount.{SignallingCount}

@@ -1,5 +1,5 @@
 -- One answer only: the public functions of `levels`.
-use mathlib.Core.Path.{_≡_, refl, sym, _∙_}
+use mathlib.Core.Path.{refl, sym, _∙_}
 use Rattle.settled.specs.Settled.{OneAnswer, nothing}
 use Rattle.levels.proofs.level_of.Kinds as level-of-kinds
 use Rattle.levels.proofs.level_of.Reads as level-of-reads

@@ -1,5 +1,5 @@
 -- One answer only: the public functions of `payload`.
-use mathlib.Core.Path.{_≡_, refl, sym, _∙_}
+use mathlib.Core.Path.{refl, sym, _∙_}
 use Rattle.settled.specs.Settled.{OneAnswer, nothing}
 use Rattle.payload.proofs.check.check_payload.Kinds as check-check-payload-kinds
 use Rattle.payload.proofs.check.check_payload.Reads as check-check-payload-reads

@@ -1,5 +1,5 @@
 -- One answer only: the public functions of `reader`.
-use mathlib.Core.Path.{_≡_, refl, sym, _∙_}
+use mathlib.Core.Path.{refl, sym, _∙_}
 use Rattle.settled.specs.Settled.{OneAnswer, nothing}
 use Rattle.reader.proofs.step_from.Kinds as step-from-kinds
 use Rattle.reader.proofs.step_from.Reads as step-from-reads

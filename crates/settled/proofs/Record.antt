@@ -1,5 +1,5 @@
 -- One answer only: the public functions of `record`.
-use mathlib.Core.Path.{_≡_, refl, sym, _∙_}
+use mathlib.Core.Path.{refl, sym, _∙_}
 use denote.Ref.{now}
 use Rattle.settled.specs.Settled.{OneAnswer, nothing}
 use Rattle.record.proofs.syntax.most_m.Kinds as syntax-most-m-kinds
@@ -14,8 +14,8 @@ use Rattle.record.proofs.table.meaning.Kinds as table-meaning-kinds
 use Rattle.record.proofs.table.meaning.Reads as table-meaning-reads
 use Rattle.record.proofs.table.record_of.Kinds as table-record-of-kinds
 use Rattle.record.proofs.table.record_of.Reads as table-record-of-reads
-use Rattle.record.proofs.text.read_text.Kinds as text-read-text-kinds
-use Rattle.record.proofs.text.read_text.Reads as text-read-text-reads
+use Rattle.provisioning.proofs.text.read_text.Kinds as text-read-text-kinds
+use Rattle.provisioning.proofs.text.read_text.Reads as text-read-text-reads
 
 pub syntax-most-m : OneAnswer 0 syntax-most-m-kinds.ps syntax-most-m-kinds.r nothing syntax-most-m-reads.Post
 syntax-most-m κs a x y s t p q = (p ∙ sym q, refl)

@@ -1,6 +1,5 @@
 -- One answer only: the public functions of `seizing`.
-use mathlib.Core.Path.{_≡_, refl, sym, _∙_}
-use denote.Ref.{now}
+use mathlib.Core.Path.{refl, sym, _∙_}
 use Rattle.settled.specs.Settled.{OneAnswer, nothing}
 use Rattle.seizing.proofs.receiver.fresh.Kinds as receiver-fresh-kinds
 use Rattle.seizing.proofs.receiver.fresh.Reads as receiver-fresh-reads

@@ -1,5 +1,5 @@
 -- One answer only: the public functions of `writer`.
-use mathlib.Core.Path.{_≡_, refl, sym, _∙_}
+use mathlib.Core.Path.{refl, sym, _∙_}
 use denote.Ref.{now}
 use Rattle.settled.specs.Settled.{OneAnswer, nothing}
 use Rattle.writer.proofs.place.fresh.Kinds as place-fresh-kinds

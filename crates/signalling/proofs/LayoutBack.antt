@@ -7,7 +7,7 @@ use mathlib.Core.Logic.{_⊎_, ⊎-elim}
 use native.Mathlib.Nat.{zero-add, not-suc-le-zero, le-of-suc-le-suc, add-zero}
 use native.Mathlib.Omega.{arith}
 use borrow.Author.Tests.{lt-ltb, ltb-true, eq-eqb, ne-eqb}
-use lib.Dec.{ltb, eqb}
+use lib.Dec.{eqb}
 use lib.ListN.{length, getD, set, take, drop}
 use lib.Seq.{paste, drop-cons, ext-getD, take-all}
 use Rattle.octets.specs.Room.{written}
@@ -19,7 +19,7 @@ use Rattle.octets.specs.Made.{made}
 use Rattle.refusal.specs.Numbers.{sound, lengthWrong}
 use Rattle.signalling.specs.declared.layout.Signalling.{Signalling}
 use Rattle.signalling.specs.declared.layout.SignallingRead.{SignallingRead}
-use Rattle.signalling.specs.Layout.{allowed, halves, nothing, allAllowed, pairAt, pairs, firstOctet, signallingMade}
+use Rattle.signalling.specs.Layout.{halves, nothing, allAllowed, pairAt, pairs, firstOctet, signallingMade}
 use Rattle.signalling.specs.Claims.{SignallingReadsBack, SignallingMadeAgain}
 use Rattle.signalling.proofs.LayoutCases as cases
 use Rattle.signalling.proofs.Halves as halves-of

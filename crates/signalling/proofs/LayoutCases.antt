@@ -1,15 +1,14 @@
 -- What `signallingRead` and `signallingMade` give in each of their cases.
 use Prim.Native.Nat.{ℕ, _/_, _%_, _<_, _≤_}
-use mathlib.Core.Path.{_≡_, refl}
+use mathlib.Core.Path.{_≡_}
 use mathlib.Core.List.{List, _∷_}
-use mathlib.Core.Bool.{true, false, cond}
+use mathlib.Core.Bool.{true, false}
 use borrow.Author.Tests.{lt-ltb, le-ltb, eq-eqb, ne-eqb}
 use lib.Dec.{eqb}
 use lib.ListN.{length, getD, drop}
 use Rattle.refusal.specs.Numbers.{sound, lengthWrong, valueOutOfRange}
-use Rattle.octets.specs.Made.{Made, made, unmade}
+use Rattle.octets.specs.Made.{made, unmade}
 use Rattle.signalling.specs.declared.layout.Signalling.{Signalling}
-use Rattle.signalling.specs.declared.layout.SignallingRead.{SignallingRead}
 use Rattle.signalling.specs.Layout.{halves, nothing, signallingRead, allAllowed, firstOctet, pairs, signallingMade}
 
 module _ (p : List ℕ) where

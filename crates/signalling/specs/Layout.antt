@@ -7,7 +7,6 @@ use lib.Dec.{ltb, eqb}
 use lib.ListN.{length, getD, drop, replicate}
 use Rattle.refusal.specs.Numbers.{sound, lengthWrong, valueOutOfRange}
 use Rattle.octets.specs.Made.{Made, made, unmade}
-use Rattle.counts.specs.declared.SignallingCount.{SignallingCount}
 use Rattle.signalling.specs.declared.layout.Signalling.{Signalling}
 use Rattle.signalling.specs.declared.layout.SignallingRead.{SignallingRead}
 

@@ -1,8 +1,7 @@
 -- Silence descriptors, written and read: the claims of specs/Claims.antt, and what the code stores.
-use Prim.Native.Nat.{ℕ, zero, suc, _*_, _/_, _%_, _<_, _≤_}
-use mathlib.Core.Path.{_≡_, refl, sym, ap, ap₂, subst, _∙_}
+use Prim.Native.Nat.{ℕ, _*_, _/_, _%_, _<_, _≤_}
+use mathlib.Core.Path.{_≡_, refl, sym, ap, subst, _∙_}
 use mathlib.Core.List.{List, [], _∷_}
-use mathlib.Core.Bool.{true, false, cond}
 use mathlib.Core.Logic.{_⊎_, inl, inr, ⊎-elim}
 use native.Mathlib.Nat.{mod-mod}
 use native.Mathlib.Omega.{arith}
@@ -11,7 +10,7 @@ use lib.IntN.{ℤ, negℤ, pos}
 use Rattle.octets.proofs.Order.{lt-or-le, eq-or-ne}
 use Rattle.octets.proofs.MadeBack.{same-made, never-made}
 use Rattle.octets.specs.Octets.{Octets}
-use Rattle.octets.specs.Made.{Made, made, unmade}
+use Rattle.octets.specs.Made.{made}
 use Rattle.counts.specs.declared.VoiceCount.{VoiceCount}
 use Rattle.levels.specs.declared.Coded.{Coded}
 use Rattle.levels.specs.declared.Coded.the-variants.{Code, Above, Below}
@@ -24,7 +23,7 @@ use Rattle.voice.specs.declared.sid.Sid.the-variants.{Noise, Plain}
 use Rattle.voice.specs.declared.sid.SidRead.{SidRead}
 use Rattle.voice.specs.declared.sid.SidRead.the-variants.{Silence, BadSid}
 use Rattle.voice.specs.Voice.{codings}
-use Rattle.voice.specs.Sid.{sidOctets, sidRead, noiseMade, withNoise, withoutNoise, sidMade}
+use Rattle.voice.specs.Sid.{sidOctets, noiseMade, withNoise, withoutNoise, sidMade}
 use Rattle.voice.specs.Claims.{SidReadsBack, SidMadeAgain, SidReadAlike, unreserved}
 use Rattle.voice.proofs.SidCases as cases
 

@@ -1,22 +1,18 @@
 -- What `sidRead` and `sidMade` give in each of their cases.
-use Prim.Native.Nat.{ℕ, _*_, _/_, _<_, _≤_}
-use mathlib.Core.Path.{_≡_, refl, sym, ap, _∙_}
-use mathlib.Core.List.{List, [], _∷_}
-use mathlib.Core.Bool.{cond}
+use Prim.Native.Nat.{ℕ, _/_, _<_, _≤_}
+use mathlib.Core.Path.{_≡_}
+use mathlib.Core.List.{List}
 use borrow.Author.Tests.{lt-ltb, le-ltb, eq-eqb, ne-eqb}
-use lib.Dec.{ltb}
 use lib.ListN.{length, getD}
 use lib.IntN.{ℤ}
 use Rattle.refusal.specs.Numbers.{typeNotAllowed, lengthWrong, valueOutOfRange}
-use Rattle.octets.specs.Made.{Made, made, unmade}
+use Rattle.octets.specs.Made.{unmade}
 use Rattle.counts.specs.declared.VoiceCount.{VoiceCount}
-use Rattle.levels.specs.declared.Coded.{Coded}
 use Rattle.levels.specs.Level.{levelOf, codeOf}
 use Rattle.record.specs.declared.syntax.Syntax.{Syntax}
 use Rattle.voice.specs.Voice.{codings}
 use Rattle.voice.specs.declared.sid.Sid.{Sid}
 use Rattle.voice.specs.declared.sid.Sid.the-variants.{Noise, Plain}
-use Rattle.voice.specs.declared.sid.SidRead.{SidRead}
 use Rattle.voice.specs.declared.sid.SidRead.the-variants.{Silence, BadSid}
 use Rattle.voice.specs.Sid.{sidOctets, sidRead, noiseMade, withNoise, withoutNoise, sidMade}
 

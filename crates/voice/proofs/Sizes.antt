@@ -1,5 +1,5 @@
 -- The sizes of voice payloads: their cases and bounds.
-use Prim.Native.Nat.{ℕ, zero, suc, _+_, _*_, _%_, _<_, _≤_}
+use Prim.Native.Nat.{ℕ, zero, suc, _+_, _*_, _%_, _≤_}
 use mathlib.Core.Path.{_≡_, refl}
 use mathlib.Core.Bool.{Bool, true, false, cond}
 use mathlib.Core.List.{List, [], _∷_, _++_}
@@ -9,11 +9,11 @@ use borrow.Author.Tests.{eq-eqb, ne-eqb}
 use lib.Dec.{eqb}
 use lib.ListN.{length, length-append}
 use Rattle.octets.proofs.Order.{eq-or-ne}
-use Rattle.octets.proofs.Table.{atMost, entries}
+use Rattle.octets.proofs.Table.{entries}
 use Rattle.record.specs.declared.syntax.Syntax.{Syntax}
 use Rattle.record.specs.declared.syntax.Syntax.the-variants.{Acelp, Pcm, G727, G728, G7231, Data, Fax}
 use Rattle.record.specs.declared.syntax.Record.{Record}
-use Rattle.voice.specs.Voice.{codings, mostSequence, pcmOctets, g727Octets, blockOctets, g7231Octets, isG7231, bodyOctets, seqFront, frontBy, frontOf, deciding}
+use Rattle.voice.specs.Voice.{codings, mostSequence, pcmOctets, g727Octets, blockOctets, g7231Octets, isG7231, bodyOctets, frontBy, frontOf, deciding}
 
 pub block-small : (syntax : Syntax) (coding : ℕ) → blockOctets syntax coding ≤ 40
 unfolding blockOctets

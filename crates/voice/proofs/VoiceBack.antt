@@ -1,7 +1,7 @@
 -- Voice payloads, written and read: the claims of specs/Claims.antt.
-use Prim.Native.Nat.{ℕ, zero, suc, _+_, _*_, _/_, _%_, _<_, _≤_}
-use mathlib.Core.Path.{_≡_, refl, sym, ap, ap₂, subst, _∙_}
-use mathlib.Core.List.{List, [], _∷_, _++_}
+use Prim.Native.Nat.{ℕ, _+_, _*_, _/_, _%_, _<_, _≤_}
+use mathlib.Core.Path.{_≡_, refl, sym, ap, subst, _∙_}
+use mathlib.Core.List.{List, [], _∷_}
 use mathlib.Core.Bool.{Bool, true, false, cond, _&&_}
 use mathlib.Core.Logic.{_⊎_, inl, inr, ⊎-elim}
 use native.Mathlib.Omega.{arith}
@@ -10,14 +10,14 @@ use lib.ListN.{length, getD, drop}
 use Rattle.octets.proofs.Order.{lt-or-le, eq-or-ne}
 use Rattle.octets.proofs.MadeBack.{same-made}
 use Rattle.octets.specs.Octets.{Octets}
-use Rattle.octets.specs.Made.{Made, made, unmade}
+use Rattle.octets.specs.Made.{made}
 use Rattle.counts.specs.declared.VoiceCount.{VoiceCount}
 use Rattle.record.specs.declared.syntax.Syntax.{Syntax}
 use Rattle.record.specs.declared.syntax.Syntax.the-variants.{Acelp, Pcm, G727, G728, G7231, Data, Fax}
 use Rattle.record.specs.declared.syntax.Record.{Record}
 use Rattle.voice.specs.declared.voice.VoiceRead.{VoiceRead}
 use Rattle.voice.specs.declared.voice.VoiceRead.the-variants.{Voice, BadVoice}
-use Rattle.voice.specs.Voice.{codings, bothFlags, isG7231, bodyOctets, frontBy, frontOf, deciding, frontOctet, judged, voiceRead, mostSequence, voiceMade}
+use Rattle.voice.specs.Voice.{codings, bothFlags, isG7231, bodyOctets, frontBy, frontOf, deciding, frontOctet, voiceRead, mostSequence, voiceMade}
 use Rattle.voice.specs.Claims.{VoiceReadsBack, VoiceMadeAgain}
 use Rattle.voice.proofs.Sizes as sizes
 use Rattle.voice.proofs.VoiceCases as cases

@@ -10,9 +10,8 @@ use lib.ListN.{length, getD}
 use Rattle.octets.proofs.Order.{lt-or-le, eq-or-ne}
 use Rattle.octets.proofs.MadeBack.{never-made}
 use Rattle.refusal.specs.Numbers.{typeNotAllowed, lengthWrong, reservedCode, valueOutOfRange, codingTypeUnknown}
-use Rattle.octets.specs.Made.{Made, made, unmade}
+use Rattle.octets.specs.Made.{made, unmade}
 use Rattle.record.specs.declared.syntax.Record.{Record}
-use Rattle.voice.specs.declared.voice.VoiceRead.{VoiceRead}
 use Rattle.voice.specs.declared.voice.VoiceRead.the-variants.{Voice, BadVoice}
 use Rattle.voice.specs.Voice.{codings, bothFlags, isG7231, bodyOctets, frontOf, deciding, frontOctet, judged, voiceRead, mostSequence, voiceMade}
 

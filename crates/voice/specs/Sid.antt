@@ -5,10 +5,8 @@ use mathlib.Core.List.{List, [], _∷_}
 use mathlib.Core.Bool.{cond}
 use lib.Dec.{ltb, eqb}
 use lib.ListN.{length, getD}
-use lib.IntN.{ℤ}
 use Rattle.refusal.specs.Numbers.{typeNotAllowed, lengthWrong, valueOutOfRange}
 use Rattle.octets.specs.Made.{Made, made, unmade}
-use Rattle.counts.specs.declared.VoiceCount.{VoiceCount}
 use Rattle.levels.specs.declared.Coded.{Coded}
 use Rattle.levels.specs.declared.Coded.the-variants.{Code, Above, Below}
 use Rattle.levels.specs.Level.{levelOf, codeOf}

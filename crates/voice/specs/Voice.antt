@@ -9,7 +9,6 @@ use lib.Dec.{ltb, leb, eqb}
 use lib.ListN.{length, getD}
 use Rattle.refusal.specs.Numbers.{typeNotAllowed, lengthWrong, reservedCode, valueOutOfRange, codingTypeUnknown}
 use Rattle.octets.specs.Made.{Made, made, unmade}
-use Rattle.counts.specs.declared.VoiceCount.{VoiceCount}
 use Rattle.record.specs.declared.syntax.Syntax.{Syntax}
 use Rattle.record.specs.declared.syntax.Syntax.the-variants.{Acelp, Pcm, G727, G728, G7231, Data, Fax}
 use Rattle.record.specs.declared.syntax.Record.{Record}

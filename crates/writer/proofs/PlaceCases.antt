@@ -1,7 +1,7 @@
 -- What the tests on the writer's place tell, in the order of the refusals.
 use Prim.Native.Nat.{ℕ, _+_, _-_, _%_, _<_, _≤_}
 use mathlib.Core.Path.{_≡_, refl, sym, ap, _∙_}
-use mathlib.Core.Logic.{_⊎_, inl, inr, ⊎-elim}
+use mathlib.Core.Logic.{_⊎_, ⊎-elim}
 use mathlib.Core.List.{List}
 use mathlib.Core.Bool.{Bool, true, false, cond}
 use native.Mathlib.Omega.{arith}
@@ -26,7 +26,6 @@ use Rattle.payload.specs.declared.layout.TypeFor.{TypeFor}
 use Rattle.payload.specs.declared.layout.TypeFor.the-variants.{Typed, NoType}
 use Rattle.payload.specs.Layout.{typeFor}
 use Rattle.writer.specs.declared.place.Writer.{Writer}
-use Rattle.writer.specs.declared.place.Channel.{Channel}
 use Rattle.writer.specs.declared.place.Channel.the-variants.{Takes, TakesNot}
 use Rattle.writer.specs.declared.place.Entered.{Entered}
 use Rattle.writer.specs.declared.place.Entered.the-variants.{Place, NoPlace}

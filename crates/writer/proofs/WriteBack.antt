@@ -2,14 +2,12 @@
 use Prim.Native.Nat.{ℕ, _+_, _<_, _≤_}
 use mathlib.Core.Path.{_≡_, refl, sym, ap, ap₂, _∙_}
 use mathlib.Core.List.{List, _++_}
-use mathlib.Core.Bool.{Bool, true, false}
-use mathlib.Core.Logic.{⊎-elim}
+use mathlib.Core.Bool.{Bool, false}
 use native.Mathlib.Omega.{arith}
-use borrow.Author.Tests.{lt-ltb, le-ltb}
+use borrow.Author.Tests.{le-ltb}
 use lib.ListN.{length}
 use Rattle.refusal.specs.Numbers.{roomTooSmall}
 use Rattle.octets.specs.Made.{Made, made, unmade}
-use Rattle.octets.proofs.Order.{lt-or-le}
 use Rattle.record.specs.declared.syntax.Record.{Record}
 use Rattle.record.specs.declared.table.Found.{Found}
 use Rattle.record.specs.declared.table.Found.the-variants.{Provisioned, Unprovisioned}
@@ -23,7 +21,7 @@ use Rattle.writer.specs.declared.place.Channel.{Channel}
 use Rattle.writer.specs.declared.place.Channel.the-variants.{Takes, TakesNot}
 use Rattle.writer.specs.declared.place.Entered.{Entered}
 use Rattle.writer.specs.declared.place.Entered.the-variants.{Place, NoPlace}
-use Rattle.writer.specs.Writer.{channelFor, onChannel, tooLong, full, placed, Writing, writes, refuses, behind, ofMade, onto, writing}
+use Rattle.writer.specs.Writer.{channelFor, onChannel, tooLong, full, placed, writes, refuses, behind, ofMade, onto, writing}
 use Rattle.writer.proofs.PlaceCases.{by-record, has-place, small, Placed, placed-back}
 use Rattle.writer.proofs.WriteCases.{Taking, taking}
 

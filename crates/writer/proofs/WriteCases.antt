@@ -2,7 +2,7 @@
 use Prim.Native.Nat.{ℕ, _+_, _-_, _<_, _≤_}
 use mathlib.Core.Path.{_≡_, refl, sym, ap, ap₂, subst, _∙_}
 use mathlib.Core.List.{List, _++_}
-use mathlib.Core.Bool.{Bool, true, false, cond}
+use mathlib.Core.Bool.{Bool, false}
 use mathlib.Core.Logic.{⊎-elim}
 use native.Mathlib.Omega.{arith}
 use lib.ListN.{length, take, drop}
@@ -17,7 +17,6 @@ use Rattle.octets.specs.Room.{put, written, leftBy}
 use Rattle.octets.proofs.Order.{lt-or-le, either}
 use Rattle.octets.proofs.Writes.{too-small, room-for, length-written}
 use Rattle.record.specs.declared.syntax.Record.{Record}
-use Rattle.record.specs.declared.syntax.Syntax.{Syntax}
 use Rattle.record.specs.declared.table.Found.{Found}
 use Rattle.record.specs.declared.table.Found.the-variants.{Provisioned, Unprovisioned}
 use Rattle.frame.specs.Joining.{headerSize, shortestHeader}

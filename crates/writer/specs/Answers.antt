@@ -1,6 +1,5 @@
 -- The answers of the writer's functions, by what the writer does: those of voice and data, and those of digits, signalling, fax
 -- and silence.
-use Prim.Native.Nat.{ℕ}
 use Rattle.writer.specs.declared.primary.Primary.{Primary}
 use Rattle.writer.specs.declared.primary.Primary.the-variants.{PrimaryTaken, PrimaryRefused}
 use Rattle.writer.specs.declared.signalled.Signalled.{Signalled}

@@ -1,7 +1,6 @@
 -- `fax::is_page` meets its contract.
 use mathlib.Core.Path.{sym}
 use Rattle.fax.proofs.Tests as tests
-use borrow.Author.Needs.{needs}
 use Rattle.fax.proofs.is_page.Statement.{statement}
 use Rattle.fax.proofs.is_page.Tie as tie
 

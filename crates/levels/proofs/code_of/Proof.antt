@@ -1,12 +1,10 @@
 -- `levels::code_of` meets its contract: the level is read back from its bits, and the cases go by its sign.
-use Prim.Native.Nat.{_≤_, _<_}
-use mathlib.Core.Path.{_≡_, ap, _∙_}
-use mathlib.Core.Bool.{true, false}
-use lib.IntN.{ℤ, pos, natAbs, negℤ}
+use mathlib.Core.Path.{_≡_}
+use mathlib.Core.Bool.{false}
+use lib.IntN.{pos}
 use lib.Signed.{ltZ}
 use mir.Syntax.{w8}
 use mir.ValLaws.{toZ-ofZ}
-use Rattle.levels.specs.declared.Coded.the-variants.{Code}
 use Rattle.levels.proofs.Signs as signs
 use Rattle.levels.proofs.code_of.Statement.{statement}
 use Rattle.levels.proofs.code_of.Tie as tie

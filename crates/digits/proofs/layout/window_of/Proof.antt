@@ -1,5 +1,5 @@
 -- `digits::layout::window_of` meets its contract.
-use borrow.Author.Tests.{lt-ltb, le-ltb, eq-eqb, ne-eqb}
+use borrow.Author.Tests.{eq-eqb, ne-eqb}
 use Rattle.digits.proofs.layout.window_of.Statement.{statement}
 use Rattle.digits.proofs.layout.window_of.Tie as tie
 

@@ -1,7 +1,6 @@
 -- `frame::opening::check` meets its contract: each turn passes one sub-frame, and what stops the loop stops the scan.
 use Prim.Native.Nat.{_-_}
 use borrow.Author.Needs.{needs}
-use native.Mathlib.Omega.{arith}
 use mathlib.Core.Path.{subst}
 use Rattle.frame.specs.Checking.{StepAt}
 use Rattle.frame.proofs.CheckingTurns as turns

@@ -2,7 +2,7 @@
 use Prim.Native.Nat.{_-_}
 use borrow.Author.Needs.{needs}
 use native.Mathlib.Omega.{arith}
-use mathlib.Core.Path.{_≡_, refl, sym, ap, _∙_}
+use mathlib.Core.Path.{sym, ap, _∙_}
 use Rattle.frame.specs.Opening.{scan, answer}
 use Rattle.frame.proofs.OpeningTurns as turns
 use Rattle.frame.proofs.HeaderInverse as inverse

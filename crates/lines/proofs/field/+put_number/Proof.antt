@@ -1,7 +1,5 @@
 -- `lines::field::put_number` meets its contract: the digits before the last four, by itself, and these. The measure is the number.
-use mathlib.Core.Path.{sym}
 use native.Mathlib.Omega.{arith}
-use Rattle.lines.specs.Decimal.{decimal}
 use Rattle.lines.proofs.Appending as appending
 use Rattle.lines.proofs.Spelling as spelling
 use Prim.Native.Nat.{ℕ, _<_}

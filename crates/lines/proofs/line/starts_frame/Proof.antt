@@ -2,8 +2,8 @@
 use Prim.Native.Nat.{_≤_, _-_}
 use mathlib.Core.Path.{_≡_, refl, sym, _∙_}
 use lib.ListN.{drop}
-use Rattle.record.specs.Value.{starts}
-use Rattle.record.proofs.Values as values
+use Rattle.octets.specs.Text.{starts}
+use Rattle.provisioning.proofs.Values as values
 use Rattle.lines.specs.Field.{frameKey}
 use borrow.Author.Needs.{needs}
 use Rattle.lines.proofs.line.starts_frame.Statement.{statement}

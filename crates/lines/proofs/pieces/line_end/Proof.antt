@@ -4,8 +4,8 @@ use mathlib.Core.Path.{_≡_, refl, sym, _∙_}
 use mathlib.Core.Bool.{true, false}
 use native.Mathlib.Omega.{arith}
 use lib.ListN.{length, drop}
-use Rattle.record.specs.Value.{hasLf}
-use Rattle.record.proofs.Values as values
+use Rattle.octets.specs.Text.{hasLf}
+use Rattle.provisioning.proofs.Values as values
 use Rattle.lines.specs.Pieces.{lineSize}
 use Rattle.lines.proofs.Ends as ends
 use borrow.Author.Needs.{needs}

@@ -1,8 +1,8 @@
 -- `lines::pieces::text_end` meets its contract: what was passed is text, so the rest decides.
 use mathlib.Core.Logic.{⊎-elim}
 use mathlib.Core.Bool.{true, false}
-use Rattle.record.specs.Value.{starts}
-use Rattle.record.proofs.Values as values
+use Rattle.octets.specs.Text.{starts}
+use Rattle.provisioning.proofs.Values as values
 use Rattle.lines.specs.Field.{frameKey}
 use Prim.Native.Nat.{_+_, _-_, _≤_}
 use mathlib.Core.Path.{_≡_, sym, ap, _∙_}

@@ -1,5 +1,4 @@
 -- `voice::sid::fit_sid` meets its contract.
-use Prim.Native.Nat.{ℕ}
 use mathlib.Core.Path.{_≡_, sym, ap, _∙_}
 use mir.Syntax.{w8}
 use mir.Val.{SFits}
@@ -8,8 +7,6 @@ use Rattle.levels.specs.Level.{codeOf}
 use Rattle.octets.specs.Made.{fitOf}
 use Rattle.levels.specs.declared.Coded.{Coded}
 use Rattle.voice.specs.Voice.{codings}
-use Rattle.voice.specs.declared.sid.Sid.{Sid}
-use Rattle.voice.specs.declared.sid.Sid.the-variants.{Noise, Plain}
 use Rattle.voice.specs.Sid.{noiseMade, withNoise, withoutNoise, sidMade}
 use Rattle.voice.proofs.SidCases as cases
 use borrow.Author.Needs.{needs}

@@ -1,11 +1,11 @@
 -- `voice::voice::fit_voice` meets its contract: the tests say which case of `voiceMade` holds.
 use Prim.Native.Nat.{ℕ, _+_, _*_, _≤_, _<_}
 use mathlib.Core.Path.{_≡_, sym, ap, _∙_}
-use mathlib.Core.Bool.{Bool, _&&_}
+use mathlib.Core.Bool.{_&&_}
 use native.Mathlib.Omega.{arith}
 use lib.ListN.{length, getD}
 use Rattle.octets.specs.declared.Fit.the-variants.{Octets}
-use Rattle.octets.specs.Made.{Made, fitOf}
+use Rattle.octets.specs.Made.{fitOf}
 use Rattle.voice.specs.Voice.{codings, bothFlags, isG7231, bodyOctets, frontOf, deciding, mostSequence}
 use Rattle.voice.proofs.Sizes as sizes
 use Rattle.voice.proofs.VoiceCases as cases

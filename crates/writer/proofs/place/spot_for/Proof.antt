@@ -1,5 +1,5 @@
 -- `writer::place::spot_for` meets its contract: the least of the room, 1,600 octets and what a length octet counts.
-use Prim.Native.Nat.{_+_, _≤_}
+use Prim.Native.Nat.{_≤_}
 use mathlib.Core.Path.{_∙_}
 use mathlib.Core.Logic.{_⊎_, inl, inr, ⊎-elim}
 use native.Mathlib.Omega.{arith}

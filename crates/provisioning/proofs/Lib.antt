@@ -1,0 +1,9 @@
+pub mod Values
+pub mod Numbers
+pub mod Lines
+pub mod Blocks
+pub mod Steps
+pub mod Turns
+pub mod TextBack
+pub mod TextTaken
+pub mod Examples

@@ -1,0 +1,43 @@
+-- The other way: the text of a table (document 01, "Provisioning text").
+use Prim.Native.Nat.{ℕ, zero, suc, _+_, _/_, _%_}
+use mathlib.Core.List.{List, [], _∷_, _++_}
+use mathlib.Core.Bool.{cond}
+use lib.Dec.{ltb}
+use Rattle.record.specs.declared.syntax.Record.{Record}
+use Rattle.record.specs.declared.table.Found.{Found}
+use Rattle.record.specs.declared.table.Found.the-variants.{Provisioned, Unprovisioned}
+use Rattle.provisioning.specs.declared.line.Kind.the-variants.{OfCid, OfSyntax, OfM, OfSeq}
+use Rattle.record.specs.Record.{word, foundAt}
+use Rattle.octets.specs.Text.{lf}
+use Rattle.provisioning.specs.Line.{key}
+
+-- a number below 1,000 in decimal digits, with no leading zero
+unfoldable pub decimal : ℕ → List ℕ
+decimal n =
+    cond (ltb n 10) ((48 + n) ∷ [])
+    (cond (ltb n 100) ((48 + n / 10) ∷ (48 + n % 10) ∷ [])
+    ((48 + n / 100) ∷ (48 + n / 10 % 10) ∷ (48 + n % 10) ∷ []))
+
+abbrev pub lineText : List ℕ → List ℕ → List ℕ
+lineText k value = k ++ (value ++ lf ∷ [])
+
+-- the four lines of a block
+unfoldable pub blockText : ℕ → Record → List ℕ
+blockText cid r =
+    lineText (key OfCid) (decimal cid)
+    ++ lineText (key OfSyntax) (word (r .syntax))
+    ++ lineText (key OfM) (decimal (r .m))
+    ++ lineText (key OfSeq) (decimal (cond (r .seq) 1 0))
+
+abbrev pub textOfFound : ℕ → Found → List ℕ
+textOfFound cid (Provisioned r) = blockText cid r
+textOfFound cid Unprovisioned = []
+
+-- the blocks of `room` CIDs from `cid` on
+unfoldable pub textFrom : ℕ → ℕ → List ℕ → List ℕ
+textFrom zero cid t = []
+textFrom (suc room) cid t = textOfFound cid (foundAt t cid) ++ textFrom room (cid + 1) t
+
+-- The text of a table: a block for each provisioned CID from 4 to 255, in order.
+abbrev pub textOfTable : List ℕ → List ℕ
+textOfTable t = textFrom 252 4 t

@@ -1,0 +1,5 @@
+pub mod Value
+pub mod Line
+pub mod Text
+pub mod Back
+pub mod Claims
