@@ -1,18 +1,20 @@
 #!/usr/bin/env python3
 """Compares the answers of the proved programs and of plain C on seeded inputs, then times both by turns and prints the table
-of docs/SPEED.md: `measure.py ROWS.. -- LISTING.. -- PLAIN.. -- COPY..`, four commands (see speed/run).
+of docs/SPEED.md: `measure.py ROWS.. -- LIST.. -- PLAIN.. -- COPY..`, four commands (see speed/run).
 """
 import math
 import os
+import statistics
 import subprocess
 import sys
+import tempfile
 import time
 
 import inputs
 
 SEEDS = 12
-TURNS = 7
-LEAST = 0.2  # seconds that plain C takes for one measurement of a row
+TURNS = 50
+LEAST = 0.05  # seconds that plain C takes for one measurement of a row
 RECORDING = 10_000_000
 
 ROWS = {
@@ -34,10 +36,12 @@ def answer(command, data):
     return subprocess.run(command, input=data, stdout=subprocess.PIPE, check=True).stdout
 
 
-def seconds(command, data):
-    begun = time.perf_counter()
-    answer(command, data)
-    return time.perf_counter() - begun
+def seconds(command, source, target=os.devnull):
+    """How long a command takes whose standard input is the file `source` and whose standard output is the file `target`."""
+    with open(source, "rb") as take, open(target, "wb") as give:
+        begun = time.perf_counter()
+        subprocess.run(command, stdin=take, stdout=give, check=True)
+        return time.perf_counter() - begun
 
 
 def same_answers(rows, listing, plain):
@@ -56,50 +60,71 @@ def same_answers(rows, listing, plain):
     return record
 
 
-def timed(rows, plain, name):
-    """How many works, and the best times for them: proved, plain C, and of each the walk over the items alone."""
-    def data(works, letter=None):
-        whole = inputs.timing(name, works)
-        return whole if letter is None else letter + whole[1:]
+def put(folder, name, data):
+    path = os.path.join(folder, name)
+    with open(path, "wb") as file:
+        file.write(data)
+    return path
+
+
+def works_for(plain, folder, name):
+    """So many works that plain C takes some time for them."""
     works = 64
     while True:
-        took = seconds(plain, data(works))
+        took = seconds(plain, put(folder, "in", inputs.timing(name, works)))
         if took > LEAST:
-            break
+            return works
         works *= 4 if took < LEAST / 3 else 2
-    best = [math.inf] * 4
-    for _ in range(TURNS):
-        for i, (command, letter) in enumerate([(rows, None), (plain, None), (rows, b"n"), (plain, b"n")]):
-            best[i] = min(best[i], seconds(command, data(works, letter)))
-    return works, best
 
 
-def best_of(command, data):
-    return min(seconds(command, data) for _ in range(TURNS))
+def turns(*runs):
+    """The times of each run, all runs by turns."""
+    times = [[run() for run in runs] for _ in range(TURNS)]
+    return [list(column) for column in zip(*times)]
+
+
+def told(ratios):
+    """The median of the ratios of the pairs, and the quarter of them below and above it."""
+    low, middle, high = statistics.quantiles(ratios, n=4)
+    return middle, f"{middle:.2f} ({low:.2f} to {high:.2f})"
+
+
+def row(rows, plain, folder, name):
+    """The ratios of the pairs without and with the walk over the inputs, and the seconds of one work."""
+    works = works_for(plain, folder, name)
+    data = inputs.timing(name, works)
+    work, walk = put(folder, "work", data), put(folder, "walk", b"n" + data[1:])
+    ours, theirs, our_walk, their_walk = turns(
+        lambda: seconds(rows, work), lambda: seconds(plain, work), lambda: seconds(rows, walk), lambda: seconds(plain, walk)
+    )
+    our_walk, their_walk = statistics.median(our_walk), statistics.median(their_walk)
+    net = [(a - our_walk) / (b - their_walk) for a, b in zip(ours, theirs)]
+    return net, [a / b for a, b in zip(ours, theirs)], (statistics.median(ours) - our_walk) / works
 
 
 def main(rows, listing, plain, copy):
     record = same_answers(rows, listing, plain)
     logs, each = [], {}
-    print(f"proved / plain C, best of {TURNS} by turns; first without, then with the walk over the inputs\n")
+    print(f"proved / plain C, median of {TURNS} alternating pairs (in brackets the middle half of them); without, then with the walk over the inputs\n")
     print("| work | ratio | with the walk |")
     print("|---|---|---|")
-    for name, what in ROWS.items():
-        works, best = timed(rows, plain, name)
-        ours, theirs = best[0] - best[2], best[1] - best[3]
-        each[name] = ours / works
-        logs.append((math.log(ours / theirs), math.log(best[0] / best[1])))
-        print(f"| {what} | {ours / theirs:.2f} | {best[0] / best[1]:.2f} |", flush=True)
-    ours, theirs = math.inf, math.inf
-    for _ in range(TURNS):
-        ours = min(ours, seconds(listing, record))
-        theirs = min(theirs, seconds(plain + ["list"], record))
-    logs.append((math.log(ours / theirs),) * 2)
-    print(f"| the listing of {len(record) / 1e6:.0f} MB | {ours / theirs:.2f} | {ours / theirs:.2f} |")
+    with tempfile.TemporaryDirectory() as folder:
+        for name, what in ROWS.items():
+            net, gross, each[name] = row(rows, plain, folder, name)
+            (a, net), (b, gross) = told(net), told(gross)
+            logs.append((math.log(a), math.log(b)))
+            print(f"| {what} | {net} | {gross} |", flush=True)
+        source, target = put(folder, "recording", record), os.path.join(folder, "listing")
+        ours, theirs, copied = turns(
+            lambda: seconds(listing, source, target), lambda: seconds(plain + ["list"], source, target), lambda: seconds(copy, source, target)
+        )
+    a, ratio = told([a / b for a, b in zip(ours, theirs)])
+    logs.append((math.log(a),) * 2)
+    print(f"| the listing of {len(record) / 1e6:.0f} MB, from a file to a file | {ratio} | {ratio} |")
     net, gross = (math.exp(sum(column) / len(logs)) for column in zip(*logs))
     print(f"| geometric mean | {net:.2f} | {gross:.2f} |")
     print()
-    print(f"the listing beside a copy of its input by read and write: {ours / best_of(copy, record):.1f} times")
+    print(f"the listing beside a copy of its input by read and write: {statistics.median(ours) / statistics.median(copied):.1f} times")
     one = each["c1"]
     print(f"frame check, time per sub-frame: 1 of one, {each['c8'] / 8 / one:.2f} of eight, {each['c64'] / 64 / one:.2f} of sixty-four")
 
