@@ -111,6 +111,7 @@ fn example_12() -> Outcome {
             modulation: 1,
             frequency: 0,
         },
+        body: &[],
     });
     expect("fax", payload, Ok(octets("81e803810000")))
 }

@@ -12,12 +12,15 @@
 //! - `listing`: "Listing program"
 //! - `bench`: "Bench examples"
 //!
-//! And what belongs to no heading: `trial` (docs/TRIAL.md), `generate` (inputs
-//! made from a seed), `histogram`, and the small helpers `hex` and `lines`.
+//! And what belongs to no heading: `trial` (docs/TRIAL.md), `unit`
+//! (docs/UNIT.md), `follow` (docs/FOLLOW.md), `generate` (inputs made from a
+//! seed), `histogram`, and the small helpers `answers`, `hex` and `lines`.
 
 #![forbid(unsafe_code)]
 
+pub mod answers;
 pub mod bench;
+pub mod follow;
 pub mod frame;
 pub mod generate;
 pub mod hex;
@@ -30,5 +33,6 @@ pub mod receivers;
 pub mod refusal;
 pub mod senders;
 pub mod trial;
+pub mod unit;
 pub mod voice_card;
 pub mod writer;

@@ -1,7 +1,12 @@
 //! Reading an input line by line without holding it: of each line the first
-//! octets are kept, the rest is only counted.
+//! octets are kept, the rest is only counted. And the lines of the trial and the
+//! unit program, a key and octets in hex.
 
+use crate::hex;
 use std::io::{self, BufRead, ErrorKind};
+
+/// The most characters of a line of the trial and the unit before its LF.
+pub const CHARACTERS: usize = 4000;
 
 /// One line of an input.
 #[derive(Clone, Debug, Default, PartialEq, Eq)]
@@ -51,6 +56,23 @@ impl<R: BufRead> LineReader<R> {
             }
         }
     }
+}
+
+/// The key and the octets of a line of the trial or the unit: none when it has
+/// over 4,000 characters or lacks its LF, or where there is no key with hex.
+pub fn key_and_octets(line: &Line) -> Option<(&[u8], Vec<u8>)> {
+    if !line.ended || line.octets > CHARACTERS as u64 {
+        return None;
+    }
+    let equals = line.kept.iter().position(|&octet| octet == b'=')?;
+    let (key, rest) = line.kept.split_at(equals);
+    let octets = hex::read(&rest[1..])?;
+    Some((key, octets))
+}
+
+/// A truth value of such a line, none when it is over 01.
+pub fn zero_or_one(octet: u8) -> Option<bool> {
+    (octet <= 1).then_some(octet == 1)
 }
 
 #[cfg(test)]
@@ -104,5 +126,37 @@ mod tests {
         let line = reader.next_line().unwrap().unwrap();
         assert_eq!((line.kept.len(), line.octets), (10, 10_000_000));
         assert!(!line.ended);
+    }
+
+    #[test]
+    fn a_key_and_octets() {
+        let read = |text: &[u8], ended| {
+            let line = line(text, text.len() as u64, ended);
+            key_and_octets(&line).map(|(key, octets)| (key.to_vec(), octets))
+        };
+        let wanted = Some((b"key".to_vec(), vec![0x0a, 0xff]));
+        assert_eq!(read(b"key=0aff", true), wanted);
+        assert_eq!(read(b"key=", true), Some((b"key".to_vec(), vec![])));
+        assert_eq!(read(b"=", true), Some((vec![], vec![])));
+        assert_eq!(read(b"key=0aff", false), None);
+        for text in [
+            "", "key", "key=0", "key=0A", "key==00", "key= 00", "key=00\r",
+        ] {
+            assert_eq!(read(text.as_bytes(), true), None, "{text}");
+        }
+        let long = line(b"key=", 4001, true);
+        assert_eq!(key_and_octets(&long), None);
+    }
+
+    #[test]
+    fn truth_values() {
+        for octet in 0..=255 {
+            let wanted = match octet {
+                0 => Some(false),
+                1 => Some(true),
+                _ => None,
+            };
+            assert_eq!(zero_or_one(octet), wanted);
+        }
     }
 }

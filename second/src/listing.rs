@@ -6,7 +6,7 @@ use crate::lines::{Line, LineReader};
 use crate::payload;
 use crate::provisioning::{read_text, Table, TextRefusal, TEXT_OCTETS};
 use crate::refusal::*;
-use std::io::{self, BufRead, Cursor, Read, Write};
+use std::io::{self, BufRead, Chain, Cursor, Read, Write};
 
 /// How a frame line starts.
 const FRAME: &[u8] = b"frame=";
@@ -14,17 +14,31 @@ const FRAME: &[u8] = b"frame=";
 const CHARACTERS: usize = 2 * FIELD_OCTETS;
 
 /// Runs the listing program from an input to an output.
-pub fn run(mut input: impl BufRead, mut output: impl Write) -> io::Result<()> {
-    let start = read_start(&mut input)?;
-    let end = text_end(&start);
-    match read_text(&start[..end]) {
-        Err(refusal) => print_text_refusal(&mut output, &refusal)?,
-        Ok(table) => {
-            let rest = Cursor::new(&start[end..]).chain(input);
-            list_frames(rest, &mut output, &table)?;
-        }
+pub fn run(input: impl BufRead, mut output: impl Write) -> io::Result<()> {
+    if let Some((table, rest)) = open_recording(input, &mut output)? {
+        list_frames(rest, &mut output, &table)?;
     }
     output.flush()
+}
+
+/// What of an input comes after its text.
+pub type Rest<R> = Chain<Cursor<Vec<u8>>, R>;
+
+/// Reads the text of a recording: the table and the lines from the first
+/// `frame=` line on. A refused text is printed, and there is nothing more.
+pub fn open_recording<R: BufRead>(
+    mut input: R,
+    output: &mut impl Write,
+) -> io::Result<Option<(Table, Rest<R>)>> {
+    let mut start = read_start(&mut input)?;
+    let after_text = start.split_off(text_end(&start));
+    match read_text(&start) {
+        Err(refusal) => {
+            print_text_refusal(output, &refusal)?;
+            Ok(None)
+        }
+        Ok(table) => Ok(Some((table, Cursor::new(after_text).chain(input)))),
+    }
 }
 
 /// The start of the input: enough octets to see whether a line at octet 8,192
@@ -56,17 +70,49 @@ fn print_text_refusal(output: &mut impl Write, refusal: &TextRefusal) -> io::Res
     writeln!(output, "line={}", refusal.line)
 }
 
+/// A line of a recording after its text.
+pub struct FieldLine {
+    /// The number, from 0; refused lines count.
+    pub number: u64,
+    /// The field, or what refuses the line: 2 or 9, at 0.
+    pub field: Result<Vec<u8>, Refusal>,
+}
+
+/// Yields the lines of a recording from the first `frame=` line on.
+pub struct Fields<R> {
+    lines: LineReader<R>,
+    number: u64,
+}
+
+impl<R: BufRead> Fields<R> {
+    /// The fields of what comes after the text.
+    pub fn new(input: R) -> Self {
+        let lines = LineReader::new(input, FRAME.len() + CHARACTERS);
+        Fields { lines, number: 0 }
+    }
+
+    /// The next line, or none when nothing is left.
+    pub fn next_field(&mut self) -> io::Result<Option<FieldLine>> {
+        let line = match self.lines.next_line()? {
+            Some(line) => line,
+            None => return Ok(None),
+        };
+        let number = self.number;
+        self.number += 1;
+        let field = read_line(&line);
+        Ok(Some(FieldLine { number, field }))
+    }
+}
+
 /// Prints the answer to every line from the first `frame=` line on.
 fn list_frames(input: impl BufRead, output: &mut impl Write, table: &Table) -> io::Result<()> {
-    let mut lines = LineReader::new(input, FRAME.len() + CHARACTERS);
-    let mut number: u64 = 0;
-    while let Some(line) = lines.next_line()? {
-        writeln!(output, "frame={number}")?;
-        match read_line(&line) {
+    let mut fields = Fields::new(input);
+    while let Some(line) = fields.next_field()? {
+        writeln!(output, "frame={}", line.number)?;
+        match line.field {
             Ok(field) => print_frame(output, table, &field)?,
             Err(refusal) => print_frame_refusal(output, refusal, 0)?,
         }
-        number += 1;
     }
     Ok(())
 }
@@ -102,7 +148,7 @@ fn print_frame(output: &mut impl Write, table: &Table, field: &[u8]) -> io::Resu
 }
 
 /// Prints the refusal of a frame.
-fn print_frame_refusal(output: &mut impl Write, number: Refusal, at: usize) -> io::Result<()> {
+pub fn print_frame_refusal(output: &mut impl Write, number: Refusal, at: usize) -> io::Result<()> {
     writeln!(output, "refused={number}")?;
     writeln!(output, "at={at}")
 }

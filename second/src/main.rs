@@ -2,7 +2,7 @@
 
 #![forbid(unsafe_code)]
 
-use second::{bench, generate, histogram, listing, trial};
+use second::{bench, follow, generate, histogram, listing, trial, unit};
 use std::io::{self, BufReader, BufWriter, Stdin, Stdout};
 use std::process::ExitCode;
 
@@ -11,9 +11,13 @@ const PIECE: usize = 1 << 18;
 
 const USAGE: &str = "usage: second list
        second trial
+       second unit
+       second follow CID
        second generate list SEED COUNT
        second generate text SEED
        second generate trial SEED COUNT
+       second generate unit SEED COUNT
+       second generate follow SEED COUNT
        second histogram
        second bench";
 
@@ -42,12 +46,23 @@ fn run(words: &[&str]) -> io::Result<bool> {
     match words {
         ["list"] => listing::run(input(), output())?,
         ["trial"] => trial::run(input(), output())?,
+        ["unit"] => unit::run(input(), output())?,
+        ["follow", cid] => {
+            let cid = follow::read_cid(cid).ok_or_else(usage)?;
+            follow::run(cid, input(), output())?
+        }
         ["generate", "list", seed, count] => {
             generate::list::run(number(seed)?, number(count)?, output())?
         }
         ["generate", "text", seed] => generate::text::run(number(seed)?, output())?,
         ["generate", "trial", seed, count] => {
             generate::trial::run(number(seed)?, number(count)?, output())?
+        }
+        ["generate", "unit", seed, count] => {
+            generate::unit::run(number(seed)?, number(count)?, output())?
+        }
+        ["generate", "follow", seed, count] => {
+            generate::follow::run(number(seed)?, number(count)?, output())?
         }
         ["histogram"] => histogram::run(input(), output())?,
         ["bench"] => return bench::run(output()),
@@ -57,7 +72,11 @@ fn run(words: &[&str]) -> io::Result<bool> {
 }
 
 fn main() -> ExitCode {
-    let arguments: Vec<String> = std::env::args().skip(1).collect();
+    // An argument that is no text is no word of the usage either.
+    let arguments: Vec<String> = std::env::args_os()
+        .skip(1)
+        .map(|argument| argument.to_string_lossy().into_owned())
+        .collect();
     let words: Vec<&str> = arguments.iter().map(String::as_str).collect();
     match run(&words) {
         Ok(true) => ExitCode::SUCCESS,

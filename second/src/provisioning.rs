@@ -161,7 +161,7 @@ impl<'t> Lines<'t> {
 }
 
 /// A number of one to three digits with no leading zero (0 itself allowed).
-fn read_number(value: &[u8]) -> Option<u16> {
+pub fn read_number(value: &[u8]) -> Option<u16> {
     let leading_zero = value.len() > 1 && value[0] == b'0';
     if value.is_empty() || value.len() > 3 || leading_zero {
         return None;

@@ -440,6 +440,7 @@ mod tests {
             sequence: 0,
             stamp: Some(0),
             command: Command::Off,
+            body: &[],
         }));
         assert_eq!(receiver, before);
         receiver.accept_other(&Content::Voice(Voice {

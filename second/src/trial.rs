@@ -1,17 +1,13 @@
 //! The trial program of docs/TRIAL.md: one sender of each kind, two receivers
 //! of each kind, lines in, answers out.
 
+use crate::answers::{print, print_digit_answer, print_signalling_answer};
 use crate::hex;
-use crate::lines::{Line, LineReader};
-use crate::payload::digits::Window;
-use crate::receivers::{DigitAnswer, DigitReceiver, SignallingAnswer, SignallingReceiver};
+use crate::lines::{key_and_octets, zero_or_one, Line, LineReader, CHARACTERS};
+use crate::receivers::{DigitReceiver, SignallingReceiver};
 use crate::refusal::Refusal;
 use crate::senders::{DigitEntry, DigitSender, Samples, SignallingSender, PERIOD_SAMPLES};
-use std::fmt::Display;
 use std::io::{self, BufRead, Write};
-
-/// The most characters of a line before its LF.
-const CHARACTERS: usize = 4000;
 
 /// *who*: which receivers get it, 0 none, 1 the first, 2 the second, 3 both.
 type Who = u8;
@@ -37,12 +33,7 @@ enum Command {
 
 /// Reads a line: none when it is malformed.
 fn read_line(line: &Line) -> Option<Command> {
-    if !line.ended || line.octets > CHARACTERS as u64 {
-        return None;
-    }
-    let equals = line.kept.iter().position(|&octet| octet == b'=')?;
-    let (key, rest) = line.kept.split_at(equals);
-    let octets = hex::read(&rest[1..])?;
+    let (key, octets) = key_and_octets(line)?;
     match key {
         b"start" => read_start(&octets),
         b"digit" => read_digit(&octets),
@@ -58,11 +49,6 @@ fn read_line(line: &Line) -> Option<Command> {
 /// A *who*, none when it is over 03.
 fn who(octet: u8) -> Option<Who> {
     (octet <= 3).then_some(octet)
-}
-
-/// A type or an alarm, none when it is over 01.
-fn zero_or_one(octet: u8) -> Option<bool> {
-    (octet <= 1).then_some(octet == 1)
 }
 
 /// The octets of `start=`: value.
@@ -246,43 +232,6 @@ impl Trial {
             self.signalling_receivers[index] = SignallingReceiver::new();
         }
     }
-}
-
-/// Prints a key and a value.
-fn print(output: &mut impl Write, key: &str, value: impl Display) -> io::Result<()> {
-    writeln!(output, "{key}={value}")
-}
-
-/// A digit period in hex: type, edge, code.
-fn window_hex(window: &Window) -> String {
-    hex::write(&[window.digit_type, window.edge, window.code])
-}
-
-/// Prints the answer of a digit receiver.
-fn print_digit_answer(output: &mut impl Write, answer: &DigitAnswer) -> io::Result<()> {
-    print(output, "filled", answer.filled)?;
-    print(output, "with", window_hex(&answer.with))?;
-    print(output, "carried", answer.carried)?;
-    for window in &answer.periods[..answer.carried] {
-        print(output, "period", window_hex(window))?;
-    }
-    Ok(())
-}
-
-/// Prints the answer of a signalling receiver, its value and its alarm.
-fn print_signalling_answer(
-    output: &mut impl Write,
-    answer: &SignallingAnswer,
-    receiver: &SignallingReceiver,
-) -> io::Result<()> {
-    print(output, "filled", answer.filled)?;
-    print(output, "with", hex::write(&[answer.with]))?;
-    print(output, "carried", answer.carried)?;
-    for samples in &answer.periods[..answer.carried] {
-        print(output, "period", hex::write(samples))?;
-    }
-    print(output, "value", receiver.value())?;
-    print(output, "alarm", u8::from(receiver.alarm()))
 }
 
 /// Runs the trial program from an input to an output.

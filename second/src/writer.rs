@@ -31,6 +31,21 @@ impl<'r> Writer<'r> {
         &self.room[..self.written]
     }
 
+    /// The whole lent room, written or not.
+    pub fn room(&self) -> &[u8] {
+        self.room
+    }
+
+    /// How many sub-frames stand written so far.
+    pub fn sub_frames(&self) -> usize {
+        self.sub_frames
+    }
+
+    /// Whether the last sub-frame is written.
+    pub fn last_written(&self) -> bool {
+        self.last_written
+    }
+
     /// Writes one sub-frame, told last or not: 24, 4, 11 to 16, 22, 23, 21.
     /// On a refusal nothing changes.
     pub fn write(

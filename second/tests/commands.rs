@@ -51,11 +51,37 @@ fn the_trial() {
 }
 
 #[test]
+fn the_unit() {
+    let input = b"cid=5\nsyntax=acelp\nm=1\nseq=0\n\
+                  frame=05\nsilence=0102\ncard=05\nroom=0003\nsid=0105000000\nshown=\nx\n";
+    let wanted: &[u8] = b"source=255\noctets=0102\nat=2\ncount=1\ndone=1\nlent=8504ee\n\
+                          malformed=7\n";
+    assert_eq!(printed(&["unit"], input), wanted);
+}
+
+#[test]
+fn the_example_of_follow() {
+    let input = b"cid=5\nsyntax=acelp\nm=1\nseq=0\n\
+                  frame=85010000240520050000\nframe=85010300240520052005\n";
+    let head = |frame: u8| {
+        format!("frame={frame}\ntype=1\nlen=8\nanswer=0\nfilled=0\nwith=000000\ncarried=3\n")
+    };
+    let first = "period=000000\nperiod=010005\nperiod=010405\n";
+    let second = "period=010005\nperiod=010005\nperiod=010405\n";
+    let wanted = format!("{}{first}{}{second}", head(0), head(1));
+    assert_eq!(printed(&["follow", "5"], input), wanted.as_bytes());
+    assert_eq!(printed(&["follow", "6"], input), b"");
+    assert_eq!(printed(&["follow", "0"], input), b"");
+}
+
+#[test]
 fn the_generators_give_the_same_every_time() {
-    let commands: [&[&str]; 3] = [
+    let commands: [&[&str]; 5] = [
         &["generate", "list", "7", "500"],
         &["generate", "text", "12"],
         &["generate", "trial", "7", "500"],
+        &["generate", "unit", "7", "500"],
+        &["generate", "follow", "7", "500"],
     ];
     for words in commands {
         let once = printed(words, b"");
@@ -64,34 +90,87 @@ fn the_generators_give_the_same_every_time() {
     }
 }
 
+/// The numbers that the histogram of an output counts.
+fn counted(output: &[u8]) -> Vec<u64> {
+    let counts = String::from_utf8(printed(&["histogram"], output)).unwrap();
+    counts
+        .lines()
+        .map(|line| line.split(' ').next().unwrap().parse().unwrap())
+        .collect()
+}
+
 #[test]
 fn generated_input_is_listed_and_counted() {
     let input = printed(&["generate", "list", "2", "3000"], b"");
     let output = printed(&["list"], &input);
-    let counts = String::from_utf8(printed(&["histogram"], &output)).unwrap();
-    let numbers: Vec<&str> = counts
-        .lines()
-        .map(|line| line.split(' ').next().unwrap())
-        .collect();
+    let wanted = [0, 1, 2, 3, 4, 5, 6, 7, 8, 9, 11, 12, 13, 14, 15, 16];
+    assert_eq!(counted(&output), wanted);
+}
+
+#[test]
+fn generated_input_of_the_unit_is_answered_and_counted() {
+    let input = printed(&["generate", "unit", "2", "20000"], b"");
+    let output = printed(&["unit"], &input);
     let wanted = [
-        "0", "1", "2", "3", "4", "5", "6", "7", "8", "9", "11", "12", "13", "14", "15", "16",
+        0, 1, 2, 3, 4, 5, 6, 7, 8, 11, 12, 13, 14, 15, 16, 21, 22, 23, 24,
     ];
-    assert_eq!(numbers, wanted);
+    assert_eq!(counted(&output), wanted);
+}
+
+#[test]
+fn a_generated_recording_is_followed_by_its_first_cid_and_counted() {
+    let mut all = Vec::new();
+    for seed in 0..10 {
+        let input = printed(&["generate", "follow", &seed.to_string(), "3000"], b"");
+        let text = String::from_utf8_lossy(&input).into_owned();
+        let cid = text.lines().next().unwrap().strip_prefix("cid=").unwrap();
+        all.extend(printed(&["follow", cid], &input));
+    }
+    let wanted = [0, 1, 2, 3, 4, 5, 6, 7, 8, 9, 12, 13, 14, 15, 16];
+    assert_eq!(counted(&all), wanted);
 }
 
 #[test]
 fn a_wrong_command_line_is_told() {
-    let wrong: [&[&str]; 5] = [
+    let wrong: [&[&str]; 18] = [
         &[],
         &["lists"],
         &["generate", "list", "x", "1"],
         &["generate", "text"],
+        &["generate", "unit", "1"],
+        &["generate", "follow", "1", "1", "1"],
         &["bench", "1"],
+        &["unit", "5"],
+        &["follow"],
+        &["follow", "5", "6"],
+        &["follow", ""],
+        &["follow", "05"],
+        &["follow", "256"],
+        &["follow", "1000"],
+        &["follow", "-5"],
+        &["follow", "+5"],
+        &["follow", "5 "],
+        &["follow", "five"],
     ];
     for words in wrong {
-        let output = second(words, b"");
+        let output = second(words, b"frame=05\n");
         assert_eq!(output.status.code(), Some(2), "{words:?}");
         assert!(output.stderr.starts_with(b"usage: second list"));
         assert_eq!(output.stdout, b"");
     }
+}
+
+#[test]
+#[cfg(unix)]
+fn an_argument_that_is_no_text_is_told() {
+    use std::os::unix::ffi::OsStrExt;
+    let output = Command::new(env!("CARGO_BIN_EXE_second"))
+        .arg("follow")
+        .arg(std::ffi::OsStr::from_bytes(b"5\xff"))
+        .stdin(Stdio::null())
+        .output()
+        .unwrap();
+    assert_eq!(output.status.code(), Some(2));
+    assert!(output.stderr.starts_with(b"usage: second list"));
+    assert_eq!(output.stdout, b"");
 }

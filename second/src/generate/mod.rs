@@ -1,10 +1,16 @@
 //! Inputs made from a seed alone, for this program and the other one.
 
+pub mod contents;
+pub mod follow;
+pub mod frames;
 pub mod list;
 pub mod payloads;
 pub mod records;
 pub mod text;
 pub mod trial;
+pub mod unit;
+
+use std::io::{self, Write};
 
 /// A small deterministic generator: splitmix64.
 #[derive(Clone, Debug)]
@@ -61,6 +67,30 @@ impl Random {
     pub fn pick<T: Copy>(&mut self, list: &[T]) -> T {
         list[self.below(list.len())]
     }
+}
+
+/// Prints so many lines, each with its LF. A scene gives some lines, perhaps none,
+/// that belong together. The very last line may lack its LF.
+fn print_lines(
+    output: &mut impl Write,
+    count: u64,
+    lf_missing_at_end: bool,
+    mut scene: impl FnMut() -> Vec<Vec<u8>>,
+) -> io::Result<()> {
+    let mut printed = 0;
+    while printed < count {
+        for line in scene() {
+            if printed == count {
+                break;
+            }
+            printed += 1;
+            output.write_all(&line)?;
+            if !(printed == count && lf_missing_at_end) {
+                output.write_all(b"\n")?;
+            }
+        }
+    }
+    output.flush()
 }
 
 #[cfg(test)]

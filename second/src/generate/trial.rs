@@ -1,7 +1,7 @@
 //! `generate trial SEED COUNT`: COUNT lines for the trial program.
 
 use super::payloads::Drawer;
-use super::Random;
+use super::{print_lines, Random};
 use crate::hex;
 use crate::provisioning::{Record, Syntax};
 use std::io::{self, Write};
@@ -9,21 +9,11 @@ use std::io::{self, Write};
 /// Prints the input of a seed.
 pub fn run(seed: u64, count: u64, mut output: impl Write) -> io::Result<()> {
     let mut generator = Generator::new(seed);
-    let mut printed = 0;
-    while printed < count {
+    let lf_missing_at_end = generator.lf_missing_at_end;
+    print_lines(&mut output, count, lf_missing_at_end, || {
         generator.scene();
-        for line in generator.lines.drain(..) {
-            if printed == count {
-                break;
-            }
-            printed += 1;
-            output.write_all(&line)?;
-            if !(printed == count && generator.lf_missing_at_end) {
-                output.write_all(b"\n")?;
-            }
-        }
-    }
-    output.flush()
+        generator.lines.split_off(0)
+    })
 }
 
 /// How a way loses payloads: for each receiver, how many it still loses.

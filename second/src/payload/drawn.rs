@@ -114,15 +114,15 @@ impl ContentDrawer<'_> {
     }
 
     fn fax(&mut self) -> Fax<'static> {
-        let command = match self.random.below(5) {
-            0 => Command::Off,
-            1 => self.fax_on(),
+        let (command, octets) = match self.random.below(5) {
+            0 => (Command::Off, 0),
+            1 => (self.fax_on(), 0),
             2 => {
                 let count = self.random.pick(&[3, 12, 24, 36, 48, 60, 72]);
-                Command::Data(self.octets(count))
+                (Command::Data, count)
             }
-            3 => Command::EndOfFrame(self.octets(3)),
-            _ => Command::Abort(self.octets(3)),
+            3 => (Command::EndOfFrame, 3),
+            _ => (Command::Abort, 3),
         };
         let needed = matches!(command, Command::Off | Command::On { .. });
         let stamp = (needed || self.random.one_in(2)) != self.wrong();
@@ -132,10 +132,11 @@ impl ContentDrawer<'_> {
             sequence: self.up_to(15),
             stamp: stamp.then_some(time),
             command,
+            body: self.octets(octets),
         }
     }
 
-    fn fax_on(&mut self) -> Command<'static> {
+    fn fax_on(&mut self) -> Command {
         let modulation = self.up_to(11);
         let any = self.random.between(0, 65535) as u16;
         let zero = modulation != 0 && !self.wrong();
@@ -304,7 +305,7 @@ fn lay_out(record: &Record, content: &Content) -> (Vec<u8>, bool) {
 /// The same of a fax payload. A modulation beyond its bits is cut to 15, which
 /// is reserved too.
 fn lay_out_fax(fax: &Fax) -> (Vec<u8>, bool) {
-    let (number, rest) = match fax.command {
+    let (number, values) = match fax.command {
         Command::Off => (0, vec![]),
         Command::On {
             hdlc,
@@ -314,9 +315,9 @@ fn lay_out_fax(fax: &Fax) -> (Vec<u8>, bool) {
             let first = u8::from(hdlc) << 7 | modulation.min(15);
             (1, vec![first, frequency as u8, (frequency >> 8) as u8])
         }
-        Command::Data(octets) => (2, octets.to_vec()),
-        Command::EndOfFrame(octets) => (3, octets.to_vec()),
-        Command::Abort(octets) => (4, octets.to_vec()),
+        Command::Data => (2, vec![]),
+        Command::EndOfFrame => (3, vec![]),
+        Command::Abort => (4, vec![]),
     };
     let mut octets = vec![(fax.sequence % 16) << 3 | number];
     let mut cut = fax.sequence > 15;
@@ -325,7 +326,8 @@ fn lay_out_fax(fax: &Fax) -> (Vec<u8>, bool) {
         octets.extend([stamp as u8, (stamp >> 8) as u8 & 127]);
         cut |= stamp > 32767;
     }
-    octets.extend(rest);
+    octets.extend(values);
+    octets.extend(fax.body);
     (octets, cut)
 }
 

@@ -40,13 +40,16 @@ pub struct Fax<'p> {
     pub sequence: u8,
     /// The time stamp, 15 bits, present exactly when EI1 is 1.
     pub stamp: Option<u16>,
-    /// The relay command and what goes with it.
-    pub command: Command<'p>,
+    /// The relay command and its values.
+    pub command: Command,
+    /// The octets of data, end of frame and abort. Off and on have none: when
+    /// writing, any make the length wrong.
+    pub body: &'p [u8],
 }
 
 /// A relay command (FRF.11 figure D - 6).
 #[derive(Clone, Copy, Debug, PartialEq, Eq)]
-pub enum Command<'p> {
+pub enum Command {
     /// Modulation off.
     Off,
     /// Modulation on.
@@ -58,12 +61,12 @@ pub enum Command<'p> {
         /// In Hz, 0 unless the modulation is 0.
         frequency: u16,
     },
-    /// Data: 3, 12, 24, 36, 48, 60 or 72 octets.
-    Data(&'p [u8]),
-    /// HDLC end of frame: 3 octets.
-    EndOfFrame(&'p [u8]),
-    /// HDLC frame abort: 3 octets.
-    Abort(&'p [u8]),
+    /// Data: a body of 3, 12, 24, 36, 48, 60 or 72 octets.
+    Data,
+    /// HDLC end of frame: a body of 3 octets.
+    EndOfFrame,
+    /// HDLC frame abort: a body of 3 octets.
+    Abort,
 }
 
 /// 14 for a reserved command, and for off and on without EI1.
@@ -114,6 +117,7 @@ pub fn read(payload: &[u8]) -> Result<Fax<'_>, Refusal> {
         sequence: first >> 3 & 0b1111,
         stamp: read_stamp(header)?,
         command: read_command(command, rest)?,
+        body: if command == ON { &[] } else { rest },
     })
 }
 
@@ -127,19 +131,19 @@ fn read_stamp(header: &[u8]) -> Result<Option<u16>, Refusal> {
     }
 }
 
-/// Reads what goes with a command; its length is right.
-fn read_command(command: u8, rest: &[u8]) -> Result<Command<'_>, Refusal> {
+/// Reads a command and its values; its length is right.
+fn read_command(command: u8, rest: &[u8]) -> Result<Command, Refusal> {
     match command {
         OFF => Ok(Command::Off),
         ON => read_on(rest),
-        DATA => Ok(Command::Data(rest)),
-        END_OF_FRAME => Ok(Command::EndOfFrame(rest)),
-        _ => Ok(Command::Abort(rest)),
+        DATA => Ok(Command::Data),
+        END_OF_FRAME => Ok(Command::EndOfFrame),
+        _ => Ok(Command::Abort),
     }
 }
 
 /// Reads the three octets of modulation on: 14.
-fn read_on(rest: &[u8]) -> Result<Command<'_>, Refusal> {
+fn read_on(rest: &[u8]) -> Result<Command, Refusal> {
     let first = rest[0];
     let modulation = first & MODULATION;
     let frequency = u16::from_le_bytes([rest[1], rest[2]]);
@@ -159,16 +163,23 @@ fn number_of(command: &Command) -> u8 {
     match command {
         Command::Off => OFF,
         Command::On { .. } => ON,
-        Command::Data(_) => DATA,
-        Command::EndOfFrame(_) => END_OF_FRAME,
-        Command::Abort(_) => ABORT,
+        Command::Data => DATA,
+        Command::EndOfFrame => END_OF_FRAME,
+        Command::Abort => ABORT,
     }
 }
 
-/// The octets that go with a command: 14 for a modulation or its frequency.
-fn write_command(command: &Command) -> Result<Vec<u8>, Refusal> {
+/// The octets that a command's values take: three for on.
+fn value_octets(command: &Command) -> usize {
+    match command {
+        Command::On { .. } => 3,
+        _ => 0,
+    }
+}
+
+/// The octets of a command's values: 14 for a modulation or its frequency.
+fn write_values(command: &Command) -> Result<Vec<u8>, Refusal> {
     match *command {
-        Command::Off => Ok(Vec::new()),
         Command::On {
             hdlc,
             modulation,
@@ -179,20 +190,7 @@ fn write_command(command: &Command) -> Result<Vec<u8>, Refusal> {
             let hdlc = if hdlc { HDLC } else { 0 };
             Ok(vec![hdlc | modulation, low, high])
         }
-        Command::Data(octets) | Command::EndOfFrame(octets) | Command::Abort(octets) => {
-            Ok(octets.to_vec())
-        }
-    }
-}
-
-/// How many octets go with a command.
-fn octets_of(command: &Command) -> usize {
-    match command {
-        Command::Off => 0,
-        Command::On { .. } => 3,
-        Command::Data(octets) | Command::EndOfFrame(octets) | Command::Abort(octets) => {
-            octets.len()
-        }
+        _ => Ok(Vec::new()),
     }
 }
 
@@ -200,8 +198,8 @@ fn octets_of(command: &Command) -> usize {
 pub fn write(fax: &Fax) -> Result<Vec<u8>, Refusal> {
     let number = number_of(&fax.command);
     check_command(number, fax.stamp.is_some())?;
-    check_length(number, octets_of(&fax.command))?;
-    let rest = write_command(&fax.command)?;
+    check_length(number, value_octets(&fax.command) + fax.body.len())?;
+    let values = write_values(&fax.command)?;
     if fax.sequence > 15 || fax.stamp.map_or(false, |stamp| stamp > MOST_STAMP) {
         return Err(OUT_OF_RANGE);
     }
@@ -210,6 +208,7 @@ pub fn write(fax: &Fax) -> Result<Vec<u8>, Refusal> {
         octets[0] |= EI1;
         octets.extend(stamp.to_le_bytes());
     }
-    octets.extend(rest);
+    octets.extend(values);
+    octets.extend_from_slice(fax.body);
     Ok(octets)
 }

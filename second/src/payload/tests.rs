@@ -330,6 +330,7 @@ fn readings_fax_modulation_12_to_15_is_14_reading_and_writing() {
                 modulation,
                 frequency: 0,
             },
+            body: &[],
         });
         let written = write(&table, 5, &content);
         assert_eq!(written.err().unwrap_or(0), wanted);
@@ -348,13 +349,15 @@ fn fax_fields() {
             modulation: 0,
             frequency: 0x0201,
         },
+        body: &[],
     };
     assert_eq!(read(&table, 5, 0, &payload), Ok(Content::Fax(wanted)));
     let payload = hex::read(b"2a010203").unwrap();
     let wanted = Fax {
         sequence: 5,
         stamp: None,
-        command: Command::Data(&[1, 2, 3]),
+        command: Command::Data,
+        body: &[1, 2, 3],
     };
     assert_eq!(read(&table, 5, 0, &payload), Ok(Content::Fax(wanted)));
 }
@@ -561,6 +564,7 @@ fn readings_content_of_another_kind_is_12() {
         sequence: 0,
         stamp: Some(0),
         command: Command::Off,
+        body: &[],
     });
     let sid = Content::Sid(Sid::Empty);
     let digits = Content::Digits(Digits::default());
@@ -583,6 +587,7 @@ fn readings_fax_is_type_0_on_a_fax_sub_channel_and_3_on_a_voice_one() {
         sequence: 0,
         stamp: Some(0),
         command: Command::Off,
+        body: &[],
     });
     let written = |syntax| write(&one(syntax, 1, 0), 5, &fax);
     assert_eq!(written(Syntax::Fax), Ok((0, vec![0x80, 0, 0])));
@@ -602,6 +607,30 @@ fn writing_signalling_out_of_range() {
     signalling.sequence = 0;
     signalling.samples[29] = 16;
     assert_eq!(signalling::write(&signalling), Err(15));
+}
+
+#[test]
+fn writing_fax_off_and_on_with_a_body_is_13() {
+    let on = Command::On {
+        hdlc: true,
+        modulation: 12,
+        frequency: 1,
+    };
+    for command in [Command::Off, on] {
+        for count in 1..100 {
+            // 13 comes after the 14 of the missing stamp, before all else.
+            let body = &zeros(count);
+            let fax = |stamp| Fax {
+                sequence: 16,
+                stamp,
+                command,
+                body,
+            };
+            assert_eq!(fax::write(&fax(None)), Err(14));
+            assert_eq!(fax::write(&fax(Some(0))), Err(13));
+            assert_eq!(fax::write(&fax(Some(32768))), Err(13));
+        }
+    }
 }
 
 /// A record of any kind from a seed, CID 5.
