@@ -2,7 +2,7 @@
 use Prim.Native.Nat.{ℕ}
 use mathlib.Core.List.{List, [], _∷_, _++_}
 use mathlib.Core.Bool.{true, false, cond}
-use lib.Dec.{ltb, eqb}
+use lib.Dec.{eqb}
 use lib.ListN.{replicate}
 use Rattle.refusal.specs.Numbers.{sound}
 use Rattle.counts.specs.Round.{step}
@@ -27,9 +27,9 @@ farthest = 255
 abbrev pub stepFrom : Receiver → DigitCount → ℕ
 stepFrom r new = stepTaken (r .heard) (step 8 (r .last .0) (new .0))
 
--- "A fill repeats the last state, edge 0"
+-- "A fill repeats the last state, edge 0"; where there are none, its place is unused.
 abbrev pub fillOf : Receiver → ℕ → Window
-fillOf r step = cond (ltb 3 step) (record { on = r .on; edge = 0; code = r .code }) offWindow
+fillOf r step = cond (eqb (fillCount step) 0) offWindow (record { on = r .on; edge = 0; code = r .code })
 
 -- "the newest .., oldest first", then "unused places off"
 abbrev pub periodsOf : Digits → ℕ → List Window

@@ -49,14 +49,14 @@ fn step_from(receiver: Receiver, new: DigitCount) -> u8
 fn fill_of(receiver: Receiver, step: u8) -> Window
     ensures { λ r. ⌜ r ≡ fillOf receiver step ⌝ }
 {
-    if 3 < step {
-        return Window {
-            on: receiver.on,
-            edge: 0,
-            code: receiver.code,
-        };
+    if replay::fill_count(step) == 0 {
+        return digits::layout::off_window();
     }
-    digits::layout::off_window()
+    Window {
+        on: receiver.on,
+        edge: 0,
+        code: receiver.code,
+    }
 }
 
 // The newest periods of a payload, oldest first.

@@ -1,9 +1,9 @@
--- Receiving signalling (document 01, "Receivers"). The state holds the last sample of the record, which fills repeat, beside
+-- The signalling receiver (document 01, "Receivers"). The state holds the last sample of the record, which fills repeat, beside
 -- the current value, which a step of 0 sets too.
 use Prim.Native.Nat.{ℕ, _*_}
 use mathlib.Core.List.{List, _++_}
 use mathlib.Core.Bool.{true, false, cond}
-use lib.Dec.{ltb, eqb}
+use lib.Dec.{eqb}
 use lib.ListN.{getD, drop, replicate}
 use Rattle.refusal.specs.Numbers.{sound}
 use Rattle.counts.specs.Round.{step}
@@ -27,9 +27,10 @@ farthest = 127
 abbrev pub stepFrom : Receiver → SignallingCount → ℕ
 stepFrom r new = stepTaken (r .heard) (step 7 (r .last .0) (new .0))
 
--- "A fill repeats .. for signalling ten of the last sample of the record", of which one is told.
+-- "A fill repeats .. for signalling ten of the last sample of the record", of which one is told; where there are none, its place
+-- is unused.
 abbrev pub fillOf : Receiver → ℕ → ℕ
-fillOf r step = cond (ltb 3 step) (r .tail) 0
+fillOf r step = cond (eqb (fillCount step) 0) 0 (r .tail)
 
 -- "the newest .., oldest first", ten samples each, then "unused places .. 0"
 abbrev pub periodsOf : List ℕ → ℕ → List ℕ

@@ -1,4 +1,4 @@
-// Receiving signalling (document 01, "Receivers"; FRF.11, Annex B).
+// The signalling receiver (document 01, "Receivers").
 use counts::SignallingCount;
 use signalling::layout::Signalling;
 ghost use mathlib.Core.Path.{_≡_};
@@ -46,14 +46,18 @@ fn step_from(receiver: Receiver, new: SignallingCount) -> u8
     replay::step_taken(receiver.heard, last.step_to(new))
 }
 
-// The sample of the fills; 0 where there are none.
+// The content of the fills, ten of one sample each; 0 where there are none.
 fn fill_of(receiver: Receiver, step: u8) -> u8
     ensures { λ r. ⌜ r ≡ fillOf receiver step ⌝ }
 {
-    if 3 < step { receiver.tail } else { 0 }
+    if replay::fill_count(step) == 0 {
+        0
+    } else {
+        receiver.tail
+    }
 }
 
-// The newest periods of a payload, oldest first: from its samples on that are not of an older period.
+// The newest periods of a payload, oldest first, from place 0 on.
 fn periods_of(samples: [u8; 30], step: u8) -> [u8; 30]
     ensures { λ r. ⌜ r ≡ periodsOf samples step ⌝ }
 {
@@ -116,7 +120,7 @@ fn passed_over(receiver: Receiver, number: u8) -> Received
     }
 }
 
-// Takes a payload.
+// Takes a signalling payload.
 pub fn receive(receiver: Receiver, payload: &[u8]) -> Received
     ensures { λ r. ⌜ r ≡ received receiver (now (payload .entry)) ⌝ }
 {
