@@ -18,13 +18,18 @@ use Rattle.seizing.specs.Sender.{isQuiet, decision, runAfter, windowsAft
 abbrev pub stateOf : Entry → ℕ → SignallingCount → List ℕ → Sender
 stateOf e run number windows = record { last = number; before = getD (e .samples) 9 0; quiet = run; windows = windows }
 
-module _ (s : Sender) (e : Entry) (quiet : Bool) (run : ℕ) (told : Decision) (is-quiet : quiet ≡ isQuiet s e)
-    (is-run : run ≡ runAfter quiet (s .quiet)) (is-told : told ≡ decision quiet (s .quiet)) where
+-- what the code found of a period: whether it is quiet, the run with it, and what is done with it
+pub record Found (s : Sender) (e : Entry) (quiet : Bool) (run : ℕ) (told : Decision) : Type 0 where
+  pub quiet-is : quiet ≡ isQuiet s e
+  pub run-is : run ≡ runAfter quiet (s .quiet)
+  pub told-is : told ≡ decision quiet (s .quiet)
+
+module _ {s : Sender} {e : Entry} {quiet : Bool} {run : ℕ} {told : Decision} (f : Found s e quiet run told) where
   decided : (d : Decision) → told ≡ d → period s e d ≡ period s e (decisionOf s e)
-  decided d t = ap (period s e) (sym t ∙ is-told ∙ ap (λ (q : Bool). decision q (s .quiet)) is-quiet)
+  decided d t = ap (period s e) (sym t ∙ f .told-is ∙ ap (λ (q : Bool). decision q (s .quiet)) (f .quiet-is))
 
   counted : run ≡ runAfter (isQuiet s e) (s .quiet)
-  counted = is-run ∙ ap (λ (q : Bool). runAfter q (s .quiet)) is-quiet
+  counted = f .run-is ∙ ap (λ (q : Bool). runAfter q (s .quiet)) (f .quiet-is)
 
   pub sends :
       (number : SignallingCount) (windows : List ℕ)
