@@ -1,12 +1,12 @@
 -- The digit receiver goes by the receivers' rule.
-use Prim.Native.Nat.{ℕ, _%_, _^_}
+use Prim.Native.Nat.{_%_, _^_}
 use mathlib.Core.Path.{_≡_, refl, ap, _∙_}
 use mathlib.Core.List.{List, [], _∷_, _++_, map}
 use mathlib.Core.Bool.{true, false}
 use mathlib.Core.Option.{Option, none, some}
 use borrow.Author.Tests.{eqb-true}
 use lib.Dec.{eqb}
-use lib.ListN.{take, replicate}
+use lib.ListN.{replicate}
 use Rattle.octets.proofs.Order.{either}
 use Rattle.counts.specs.Round.{step}
 use Rattle.digits.specs.declared.layout.Window.{Window}
@@ -15,14 +15,15 @@ use Rattle.digits.specs.declared.layout.DigitsRead.{DigitsRead}
 use Rattle.digits.specs.declared.layout.DigitsRead.the-variants.{Dialled, BadDigits}
 use Rattle.dialling.specs.declared.receiver.Receiver.{Receiver}
 use Rattle.dialling.specs.declared.receiver.Received.{Received}
-use Rattle.digits.specs.Layout.{digitsRead}
-use Rattle.dialling.specs.Receiver.{stepFrom, fillOf, places, receiverAfter, appended, receivedBy, received}
-use Rattle.replay.specs.Rule.{fillCount, carriedCount, newest}
+use Rattle.digits.specs.Layout.{offWindow, digitsRead}
+use Rattle.dialling.specs.Receiver.{stepFrom, fillOf, receiverAfter, appended}
+use Rattle.dialling.proofs.ReceiverCases.{received-by}
+use Rattle.replay.specs.Rule.{fillCount}
 use Rattle.replay.specs.Periods.{Payload, Mark, filled, carried}
 use Rattle.replay.specs.Claims as replays
+use Rattle.replay.proofs.Steps.{in-use, heard-at-zero, same-at-zero}
 use Rattle.carried.specs.Emissions.{Emission}
 use Rattle.carried.specs.Digits.{Heard, came, voice, marksOf, answered, receiverNext, marks}
-use Rattle.carried.proofs.Steps.{by-step, heard-at-zero, same-at-zero}
 
 abbrev pub digitReceiver : replays.Receiver Window
 digitReceiver =
@@ -47,14 +48,10 @@ abbrev pub brings : Heard → Option (Payload Window)
 brings (came p) = readPayload (digitsRead (p .octets))
 brings voice = none
 
--- the carried places are the newest windows
-newest-kept : (a b c : Window) (step : ℕ) → take (carriedCount step) (places (newest step (a ∷ b ∷ c ∷ []))) ≡ newest step (a ∷ b ∷ c ∷ [])
-newest-kept a b c = by-step refl refl refl (λ step three nought. rw (three, nought) refl)
-
 appended-is : (r : Receiver) (d : Digits) → marksOf (appended r d (stepFrom r (d .sequence))) ≡ replays.byStep (stepFrom r (d .sequence)) (fillOf r (stepFrom r (d .sequence))) (windowsOf d)
 appended-is r d =
     let at = stepFrom r (d .sequence) in
-    ap (λ (ws : List Window). replicate (fillCount at) (filled (fillOf r at)) ++ map carried ws) (newest-kept (d .previous) (d .recent) (d .current) at)
+    ap (λ (ws : List Window). replicate (fillCount at) (filled (fillOf r at)) ++ map carried ws) (in-use (d .previous) (d .recent) (d .current) offWindow at)
 
 -- after a payload, also one at a step of 0, one was heard and its sequence is the last
 after-heard : (r : Receiver) (d : Digits) → receiverAfter r d (stepFrom r (d .sequence)) .heard ≡ true
@@ -75,13 +72,9 @@ after-last r d =
     (eqb at 0)
     refl
 
-received-is : (r : Receiver) (octets : List ℕ) (read : DigitsRead) → digitsRead octets ≡ read → received r octets ≡ receivedBy r read
-unfolding received
-received-is r octets read e = ap (receivedBy r) e
-
 acts : (r : Receiver) (p : Emission) (read : DigitsRead) → digitsRead (p .octets) ≡ read → replays.Acts 8 digitReceiver r (came p) (readPayload read)
 acts r p (Dialled d) e =
-    let is = received-is r (p .octets) (Dialled d) e in
+    let is = received-by r (p .octets) (Dialled d) e in
     record {
       fill = fillOf r (stepFrom r (d .sequence));
       appends = ap marksOf is ∙ appended-is r d;
@@ -89,7 +82,7 @@ acts r p (Dialled d) e =
       last = ap (λ (a : Received). a .receiver .last .0 % 2 ^ 8) is ∙ after-last r d;
     }
 acts r p (BadDigits refusal) e =
-    let is = received-is r (p .octets) (BadDigits refusal) e in
+    let is = received-by r (p .octets) (BadDigits refusal) e in
     record {
       appends = ap marksOf is;
       heard = ap (λ (a : Received). a .receiver .heard) is;

@@ -1,4 +1,3 @@
-pub mod Steps
 pub mod DigitRule
 pub mod DigitSender
 pub mod Digits

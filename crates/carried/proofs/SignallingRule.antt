@@ -16,7 +16,8 @@ use Rattle.signalling.specs.declared.layout.SignallingRead.{SignallingRead}
 use Rattle.seizing.specs.declared.receiver.Receiver.{Receiver}
 use Rattle.seizing.specs.declared.receiver.Received.{Received}
 use Rattle.signalling.specs.Layout.{halves, nothing, signallingRead}
-use Rattle.seizing.specs.Receiver.{stepFrom, fillOf, periodsOf, replayed, receivedRead, received}
+use Rattle.seizing.specs.Receiver.{stepFrom, fillOf, periodsOf, appended, received}
+use Rattle.seizing.proofs.ReceiverCases.{received-by}
 use Rattle.signalling.proofs.Halves.{length-halves}
 use Rattle.replay.specs.Rule.{fillCount, carriedCount, newest}
 use Rattle.replay.specs.Periods.{Payload, Mark, filled, carried}
@@ -52,35 +53,32 @@ accepted s = record { number = sound; signalling = s }
 abbrev refused : SignallingRead
 refused = record { number = lengthWrong; signalling = nothing }
 
-kept : (step : ℕ) (samples : List ℕ) → Parts samples → take (carriedCount step) (tens (periodsOf step samples)) ≡ newest step (tens samples)
+kept : (step : ℕ) (samples : List ℕ) → Parts samples → take (carriedCount step) (tens (periodsOf samples step)) ≡ newest step (tens samples)
 kept step samples p =
-    ap (λ (l : List ℕ). take (carriedCount step) (tens (periodsOf step l))) (p .is)
+    ap (λ (l : List ℕ). take (carriedCount step) (tens (periodsOf l step))) (p .is)
     ∙ newest-kept (p .a) (p .b) (p .c) (p .ten) step
     ∙ ap (newest step) (sym (tens-of (p .a) (p .b) (p .c) (p .ten)))
     ∙ ap (λ (l : List ℕ). newest step (tens l)) (sym (p .is))
 
 appended-is : (r : Receiver) (s : Signalling) → Parts (s .samples)
-    → marksOf (replayed (stepFrom r (s .sequence)) r s) ≡ replays.byStep (stepFrom r (s .sequence)) (replicate 10 (fillOf (stepFrom r (s .sequence)) r)) (tens (s .samples))
-unfolding replayed
+    → marksOf (appended r s (stepFrom r (s .sequence))) ≡ replays.byStep (stepFrom r (s .sequence)) (replicate 10 (fillOf r (stepFrom r (s .sequence)))) (tens (s .samples))
 appended-is r s p =
     let at = stepFrom r (s .sequence) in
-    ap (λ (ws : List (List ℕ)). replicate (fillCount at) (filled (replicate 10 (fillOf at r))) ++ map carried ws) (kept at (s .samples) p)
+    ap (λ (ws : List (List ℕ)). replicate (fillCount at) (filled (replicate 10 (fillOf r at))) ++ map carried ws) (kept at (s .samples) p)
 
 takes : (r : Receiver) (p : Emission) (s : Signalling) → length (s .samples) ≡ 30 → signallingRead (p .octets) ≡ accepted s → replays.Acts 7 signallingReceiver r p (readPayload (accepted s))
-unfolding receivedRead replayed
 takes r p s thirty e =
-    let is : received r (p .octets) ≡ replayed (stepFrom r (s .sequence)) r s = ap (receivedRead r) e in
+    let is = received-by r (p .octets) (accepted s) e in
     record {
-      fill = replicate 10 (fillOf (stepFrom r (s .sequence)) r);
+      fill = replicate 10 (fillOf r (stepFrom r (s .sequence)));
       appends = ap marksOf is ∙ appended-is r s (parts (s .samples) thirty);
       heard = ap (λ (a : Received). a .receiver .heard) is;
       last = ap (λ (a : Received). a .receiver .last .0 % 2 ^ 7) is;
     }
 
 passes : (r : Receiver) (p : Emission) → signallingRead (p .octets) ≡ refused → replays.Acts 7 signallingReceiver r p (readPayload refused)
-unfolding receivedRead
 passes r p e =
-    let is = ap (receivedRead r) e in
+    let is = received-by r (p .octets) refused e in
     record {
       appends = ap marksOf is;
       heard = ap (λ (a : Received). a .receiver .heard) is;

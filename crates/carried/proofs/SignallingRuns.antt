@@ -14,7 +14,7 @@ use Rattle.seizing.specs.declared.sender.Entry.{Entry}
 use Rattle.seizing.specs.declared.sender.Sender.{Sender}
 use Rattle.seizing.specs.declared.sender.Sent.{Sent}
 use Rattle.signalling.specs.Layout.{allAllowed}
-use Rattle.seizing.specs.Sender.{started, allEqual, isQuiet, runAfter, goingOut, nothingDue}
+use Rattle.seizing.specs.Sender.{started, allEqual, isQuiet, runAfter, afterSent, afterUnsent, goingOut, nothingDue}
 use Rattle.seizing.specs.Sender as defined
 use Rattle.seizing.specs.Receiver.{freshReceiver}
 use Rattle.replay.specs.Periods.{pay, range, Near, Among}
@@ -26,21 +26,21 @@ use Rattle.carried.specs.Emissions.{Emission}
 use Rattle.carried.specs.Signalling.{emitted, numberAfter, emissions, periodOf, arrivals, marks, TenEach}
 use Rattle.carried.specs.SignallingRuns.{still, ring, pulse, line, sent, first, second, far, Runs, Sharp}
 use Rattle.carried.proofs.SignallingRule.{signallingReceiver, brings, by-rule, record-is}
-use Rattle.carried.proofs.SignallingSender.{Brings, all-bring, onSent, onOther, is-loud, is-early, is-resting, is-repeat, raised}
+use Rattle.carried.proofs.SignallingSender.{Brings, all-bring, is-loud, is-early, is-resting, is-repeat, raised}
 
 -- the numbers that an entry adds, by its answer
 module _ (s : Sender) (n : ℕ) (e : Entry) (es : List Entry) where
   on-answer : (t : Sent) → defined.sent s e ≡ t → arrivals (emissions s n (e ∷ es)) ≡ arrivals (emitted s n t ++ emissions (t .sender) (numberAfter s n t) es)
   on-answer t is = ap (λ (x : Sent). arrivals (emitted s n x ++ emissions (x .sender) (numberAfter s n x) es)) is
 
-  sends : defined.sent s e ≡ goingOut (e .alarm) (onSent s e) → arrivals (emissions s n (e ∷ es)) ≡ n ∷ arrivals (emissions (onSent s e) (suc n) es)
-  sends is = on-answer (goingOut (e .alarm) (onSent s e)) is ∙ rw (raised (s .last .0)) refl
+  sends : defined.sent s e ≡ goingOut (afterSent s e) (e .alarm) → arrivals (emissions s n (e ∷ es)) ≡ n ∷ arrivals (emissions (afterSent s e) (suc n) es)
+  sends is = on-answer (goingOut (afterSent s e) (e .alarm)) is ∙ rw (raised (s .last .0)) refl
 
-  rests : defined.sent s e ≡ nothingDue sound (onOther s e) → arrivals (emissions s n (e ∷ es)) ≡ arrivals (emissions (onOther s e) n es)
-  rests is = on-answer (nothingDue sound (onOther s e)) is
+  rests : defined.sent s e ≡ nothingDue (afterUnsent s e) sound → arrivals (emissions s n (e ∷ es)) ≡ arrivals (emissions (afterUnsent s e) n es)
+  rests is = on-answer (nothingDue (afterUnsent s e) sound) is
 
-  repeated : defined.sent s e ≡ goingOut (e .alarm) (onOther s e) → arrivals (emissions s n (e ∷ es)) ≡ (n - 1) ∷ arrivals (emissions (onOther s e) n es)
-  repeated is = on-answer (goingOut (e .alarm) (onOther s e)) is ∙ rw (eq-eqb (s .last .0) (s .last .0) refl) refl
+  repeated : defined.sent s e ≡ goingOut (afterUnsent s e) (e .alarm) → arrivals (emissions s n (e ∷ es)) ≡ (n - 1) ∷ arrivals (emissions (afterUnsent s e) n es)
+  repeated is = on-answer (goingOut (afterUnsent s e) (e .alarm)) is ∙ rw (eq-eqb (s .last .0) (s .last .0) refl) refl
 
 -- a pulse is quiet nowhere
 never-quiet : (s : Sender) → isQuiet s pulse ≡ false
@@ -64,7 +64,7 @@ pulses : (s : Sender) (n m : ℕ) → arrivals (emissions s n (replicate m pulse
 pulses s n zero = refl
 pulses s n (suc m) =
     sends s n pulse (replicate m pulse) (is-loud s pulse fair-pulse (never-quiet s))
-    ∙ ap {B = List ℕ} (λ ns. n ∷ ns) (pulses (onSent s pulse) (suc n) m)
+    ∙ ap {B = List ℕ} (λ ns. n ∷ ns) (pulses (afterSent s pulse) (suc n) m)
 
 -- a run of quiet periods, of which q went before
 pub record Quiet (s : Sender) (q : ℕ) : Type 0 where
@@ -80,10 +80,10 @@ run-on s q quiet less =
     let test : isQuiet s still ≡ true = is-still s (quiet .before) in
     rw (test, quiet .run, lt-ltb q 274 less) refl
 
-sent-still : (s : Sender) (q : ℕ) → Quiet s q → q < 274 → Quiet (onSent s still) (q + 1)
+sent-still : (s : Sender) (q : ℕ) → Quiet s q → q < 274 → Quiet (afterSent s still) (q + 1)
 sent-still s q quiet less = record { before = refl; run = run-on s q quiet less }
 
-other-still : (s : Sender) (q : ℕ) → Quiet s q → q < 274 → Quiet (onOther s still) (q + 1)
+other-still : (s : Sender) (q : ℕ) → Quiet s q → q < 274 → Quiet (afterUnsent s still) (q + 1)
 other-still s q quiet less = record { before = refl; run = run-on s q quiet less }
 
 -- m more of the first 25
@@ -102,7 +102,7 @@ early (suc m) s n q rest ns quiet few next =
     let count : suc n + m ≡ n + suc m = omega arith in
     sends s n still (replicate m still ++ rest) (is-early s still fair-still (is-still s (quiet .before)) (omega arith))
     ∙ ap {B = List ℕ} (λ ks. n ∷ ks)
-    (early m (onSent s still) (suc n) (q + 1) rest ns (sent-still s q quiet (omega arith)) (omega arith)
+    (early m (afterSent s still) (suc n) (q + 1) rest ns (sent-still s q quiet (omega arith)) (omega arith)
     (λ t more. ap (λ (k : ℕ). arrivals (emissions t k rest)) count ∙ next t (rw (← turn) more)))
 
 -- m more of those that are not sent
@@ -117,7 +117,7 @@ unsent (suc m) s n q rest ns quiet late few next =
     let run : s .quiet ≡ q = quiet .run in
     let turn : q + 1 + m ≡ q + suc m = omega arith in
     rests s n still (replicate m still ++ rest) (is-resting s still fair-still (is-still s (quiet .before)) (omega arith) (omega arith))
-    ∙ unsent m (onOther s still) n (q + 1) rest ns (other-still s q quiet (omega arith)) (omega arith) (omega arith) (λ t more. next t (rw (← turn) more))
+    ∙ unsent m (afterUnsent s still) n (q + 1) rest ns (other-still s q quiet (omega arith)) (omega arith) (omega arith) (λ t more. next t (rw (← turn) more))
 
 -- the numbers of the line: 0 to 24, the repeat, 25 to 184
 abbrev numbers : List ℕ
@@ -131,7 +131,7 @@ all-numbers =
     (λ u quiet2.
     let run : u .quiet ≡ 274 = quiet2 .run in
     repeated u 25 ring (replicate 160 pulse) (is-repeat u ring fair-still (is-still u (quiet2 .before)) (omega arith))
-    ∙ ap {B = List ℕ} (λ ks. 24 ∷ ks) (pulses (onOther u ring) 25 160)))
+    ∙ ap {B = List ℕ} (λ ks. 24 ∷ ks) (pulses (afterUnsent u ring) 25 160)))
 
 picked-numbers : (gs : List ℕ) → arrivals (picked gs sent) ≡ picked gs numbers
 picked-numbers gs = picked-map (λ (p : Emission). p .number) gs sent ∙ ap (picked gs) all-numbers

@@ -20,7 +20,9 @@ use Rattle.seizing.specs.declared.sender.Entry.{Entry}
 use Rattle.seizing.specs.declared.sender.Sender.{Sender}
 use Rattle.seizing.specs.declared.sender.Sent.{Sent}
 use Rattle.signalling.specs.Layout.{allowed, allAllowed, signallingRead, signallingMade}
-use Rattle.seizing.specs.Sender.{senderFrom, started, isQuiet, runAfter, windowsAfter, payloadOf, goingOut, nothingDue, period, sent, Proper}
+use Rattle.seizing.specs.Sender.{senderFrom, started, isQuiet, windowsAfter, afterSent, afterUnsent, payloadOf, goingOut, nothingDue, period, sent}
+use Rattle.seizing.specs.Claims.{Proper}
+use Rattle.seizing.proofs.SenderCases.{refused}
 use Rattle.seizing.proofs.SenderBack.{sender-starts, sender-stays, payload-back}
 use Rattle.replay.specs.Periods.{pay, Rising}
 use Rattle.replay.proofs.Sublists.{Each, rising-from}
@@ -33,54 +35,31 @@ use Rattle.carried.proofs.SignallingRule.{readPayload}
 abbrev pub Brings : (ℕ → List ℕ) → Emission → Type 0
 Brings S p = readPayload (signallingRead (p .octets)) ≡ some (pay 7 S (p .number))
 
--- the state after a period that is sent, and after one that is not
-abbrev pub onSent : Sender → Entry → Sender
-onSent s e =
-    record {
-      last = record { 0 = onward 7 (s .last .0) 1 };
-      before = getD (e .samples) 9 0;
-      quiet = runAfter (isQuiet s e) (s .quiet);
-      windows = windowsAfter (s .windows) (e .samples);
-    }
-
-abbrev pub onOther : Sender → Entry → Sender
-onOther s e =
-    record {
-      last = s .last;
-      before = getD (e .samples) 9 0;
-      quiet = runAfter (isQuiet s e) (s .quiet);
-      windows = s .windows;
-    }
-
 -- the answers
 module _ (s : Sender) (e : Entry) where
-  pub is-refused : allAllowed 10 0 (e .samples) ≡ false → sent s e ≡ nothingDue valueOutOfRange s
-  unfolding sent
-  is-refused h = simp h
-
   module _ (fair : allAllowed 10 0 (e .samples) ≡ true) where
-    pub is-loud : isQuiet s e ≡ false → sent s e ≡ goingOut (e .alarm) (onSent s e)
+    pub is-loud : isQuiet s e ≡ false → sent s e ≡ goingOut (afterSent s e) (e .alarm)
     unfolding sent period
     is-loud q = simp (fair, q)
 
-    pub is-early : isQuiet s e ≡ true → s .quiet < 25 → sent s e ≡ goingOut (e .alarm) (onSent s e)
+    pub is-early : isQuiet s e ≡ true → s .quiet < 25 → sent s e ≡ goingOut (afterSent s e) (e .alarm)
     unfolding sent period
     is-early q less = simp (fair, q, lt-ltb (s .quiet) 25 less)
 
-    pub is-resting : isQuiet s e ≡ true → 25 ≤ s .quiet → s .quiet < 274 → sent s e ≡ nothingDue sound (onOther s e)
+    pub is-resting : isQuiet s e ≡ true → 25 ≤ s .quiet → s .quiet < 274 → sent s e ≡ nothingDue (afterUnsent s e) sound
     unfolding sent period
     is-resting q more less = simp (fair, q, le-ltb (s .quiet) 25 more, lt-ltb (s .quiet) 274 less)
 
-    pub is-repeat : isQuiet s e ≡ true → 274 ≤ s .quiet → sent s e ≡ goingOut (e .alarm) (onOther s e)
+    pub is-repeat : isQuiet s e ≡ true → 274 ≤ s .quiet → sent s e ≡ goingOut (afterUnsent s e) (e .alarm)
     unfolding sent period
     is-repeat q more = let early : 25 ≤ s .quiet = omega arith in simp (fair, q, le-ltb (s .quiet) 25 early, le-ltb (s .quiet) 274 more)
 
   -- one of the four
   split : {A : Type 0}
-      → (sent s e ≡ nothingDue valueOutOfRange s → A)
-      → (sent s e ≡ goingOut (e .alarm) (onSent s e) → A)
-      → (0 < s .quiet → sent s e ≡ nothingDue sound (onOther s e) → A)
-      → (0 < s .quiet → sent s e ≡ goingOut (e .alarm) (onOther s e) → A)
+      → (sent s e ≡ nothingDue s valueOutOfRange → A)
+      → (sent s e ≡ goingOut (afterSent s e) (e .alarm) → A)
+      → (0 < s .quiet → sent s e ≡ nothingDue (afterUnsent s e) sound → A)
+      → (0 < s .quiet → sent s e ≡ goingOut (afterUnsent s e) (e .alarm) → A)
       → A
   split bad sends rests repeated =
       either
@@ -95,7 +74,7 @@ module _ (s : Sender) (e : Entry) where
       (λ q. sends (is-loud fair q))
       (isQuiet s e)
       refl)
-      (λ wrong. bad (is-refused wrong))
+      (λ wrong. bad (refused s e wrong))
       (allAllowed 10 0 (e .samples))
       refl
 
@@ -148,7 +127,7 @@ module _ (P : ℕ → List ℕ) (start : List ℕ) where
       → Each (Brings S) (emitted s n t ++ emissions (t .sender) (numberAfter s n t) es)
 
   module _ (s : Sender) (n : ℕ) (e : Entry) (es : List Entry) (z u v : List ℕ) (run : Run es) (ten-each : TenEach (e ∷ es)) (stands : Stands s n z u v) where
-    sends : Proper (onSent s e) → Answered s n e es z u v (goingOut (e .alarm) (onSent s e))
+    sends : Proper (afterSent s e) → Answered s n e es z u v (goingOut (afterSent s e) (e .alarm))
     sends proper = rw (raised (s .last .0)) sends-new
       where
         new : Three u v (e .samples)
@@ -166,23 +145,23 @@ module _ (P : ℕ → List ℕ) (start : List ℕ) where
         number : onward 7 (s .last .0) 1 ≡ n % 2 ^ 7
         number = let whole : suc n + 127 ≡ n + 2 ^ 7 = omega arith in next ∙ ap (λ (m : ℕ). m % 2 ^ 7) whole ∙ add-mod-right n (2 ^ 7)
 
-        sends-new : Ahead n z u v (e .samples ∷ sentBy (onSent s e) es)
-            → Brings S (record { number = n; octets = octetsOf (signallingMade (payloadOf (onSent s e) (e .alarm))) }) × Each (Brings S) (emissions (onSent s e) (suc n) es)
+        sends-new : Ahead n z u v (e .samples ∷ sentBy (afterSent s e) es)
+            → Brings S (record { number = n; octets = octetsOf (signallingMade (payloadOf (afterSent s e) (e .alarm))) }) × Each (Brings S) (emissions (afterSent s e) (suc n) es)
         sends-new ahead = (
-          brings-of S (onSent s e) (e .alarm) n u v (e .samples) proper new moved number
+          brings-of S (afterSent s e) (e .alarm) n u v (e .samples) proper new moved number
               (sym (ahead 1) ∙ ap P (omega arith))
               (sym (ahead 2) ∙ ap P (omega arith))
               (sym (ahead 3) ∙ ap P (omega arith)),
-          run (onSent s e) (suc n) u v (e .samples) (ten-each .1)
+          run (afterSent s e) (suc n) u v (e .samples) (ten-each .1)
               (record { proper = proper; ten = new; windows = moved; number = next; begun = λ _. omega arith })
               (λ i. ap P (omega arith) ∙ ahead (suc i)),
         )
 
     -- after a period that is not sent
-    other : Proper (onOther s e) → 0 < n → Stands (onOther s e) n z u v
+    other : Proper (afterUnsent s e) → 0 < n → Stands (afterUnsent s e) n z u v
     other proper begun = record { proper = proper; ten = stands .ten; windows = stands .windows; number = stands .number; begun = λ _. begun }
 
-    repeated : Proper (onOther s e) → 0 < n → Answered s n e es z u v (goingOut (e .alarm) (onOther s e))
+    repeated : Proper (afterUnsent s e) → 0 < n → Answered s n e es z u v (goingOut (afterUnsent s e) (e .alarm))
     repeated proper begun = rw (eq-eqb (s .last .0) (s .last .0) refl) again
       where
         number : s .last .0 ≡ (n - 1) % 2 ^ 7
@@ -190,14 +169,14 @@ module _ (P : ℕ → List ℕ) (start : List ℕ) where
             let whole : n + 127 ≡ n - 1 + 2 ^ 7 = omega arith in
             stands .number ∙ ap (λ (m : ℕ). m % 2 ^ 7) whole ∙ add-mod-right (n - 1) (2 ^ 7)
 
-        again : Ahead n z u v (sentBy (onOther s e) es)
-            → Brings S (record { number = n - 1; octets = octetsOf (signallingMade (payloadOf (onOther s e) (e .alarm))) }) × Each (Brings S) (emissions (onOther s e) n es)
+        again : Ahead n z u v (sentBy (afterUnsent s e) es)
+            → Brings S (record { number = n - 1; octets = octetsOf (signallingMade (payloadOf (afterUnsent s e) (e .alarm))) }) × Each (Brings S) (emissions (afterUnsent s e) n es)
         again ahead = (
-          brings-of S (onOther s e) (e .alarm) (n - 1) z u v proper (stands .ten) (stands .windows) number
+          brings-of S (afterUnsent s e) (e .alarm) (n - 1) z u v proper (stands .ten) (stands .windows) number
               (sym (ahead 0) ∙ ap P (omega arith))
               (sym (ahead 1) ∙ ap P (omega arith))
               (sym (ahead 2) ∙ ap P (omega arith)),
-          run (onOther s e) n z u v (ten-each .1) (other proper begun) ahead,
+          run (afterUnsent s e) n z u v (ten-each .1) (other proper begun) ahead,
         )
 
     entry-brings : Answered s n e es z u v (sent s e)
@@ -208,7 +187,7 @@ module _ (P : ℕ → List ℕ) (start : List ℕ) where
         (λ quiet is.
         subst (Answered s n e es z u v) (sym is)
         (λ ahead.
-        run (onOther s e) n z u v (ten-each .1)
+        run (afterUnsent s e) n z u v (ten-each .1)
         (other (subst (λ (t : Sent). Proper (t .sender)) is stays) (stands .begun quiet))
         ahead))
         (λ quiet is.

@@ -7,11 +7,9 @@ use lib.ListN.{length, take, drop, replicate, length-append, length-take, length
 use lib.Seq.{take-at, drop-at, take-all}
 use Rattle.seizing.specs.Receiver.{periodsOf}
 use Rattle.replay.specs.Rule.{carriedCount, newest}
+use Rattle.replay.proofs.Replay.{three}
+use Rattle.replay.proofs.Steps.{by-step}
 use Rattle.carried.specs.Signalling.{tens}
-use Rattle.carried.proofs.Steps.{by-step}
-
-three : {A : Type 0} {a a2 b b2 c c2 : A} → a ≡ a2 → b ≡ b2 → c ≡ c2 → a ∷ b ∷ c ∷ [] ≡ a2 ∷ b2 ∷ c2 ∷ []
-three p q r = cc
 
 pub record Three (a b c : List ℕ) : Type 0 where
   pub one : length a ≡ 10
@@ -59,7 +57,7 @@ module _ (a b c : List ℕ) (t : Three a b c) where
       let both : length (a ++ b) ≡ 20 = length-append a b ∙ (let x : length a ≡ 10 = t .one in let y : length b ≡ 10 = t .two in omega arith) in
       ap (drop 20) (sym (append-assoc a b c)) ∙ drop-at (a ++ b) c 20 both
 
-  pub newest-kept : (step : ℕ) → take (carriedCount step) (tens (periodsOf step (a ++ (b ++ c)))) ≡ newest step (a ∷ b ∷ c ∷ [])
+  pub newest-kept : (step : ℕ) → take (carriedCount step) (tens (periodsOf (a ++ (b ++ c)) step)) ≡ newest step (a ∷ b ∷ c ∷ [])
   newest-kept =
       by-step refl
       (ap (λ (l : List ℕ). take 1 (tens (l ++ replicate 20 0))) from-two
@@ -67,5 +65,5 @@ module _ (a b c : List ℕ) (t : Three a b c) where
       (ap (λ (l : List ℕ). take 2 (tens (l ++ replicate 10 0))) from-one
       ∙ ap (λ (l : List ℕ). take 2 (tens l)) (append-assoc b c (replicate 10 0))
       ∙ ap (take 2) (tens-of b c (replicate 10 0) (record { one = t .two; two = t .last; last = refl })))
-      (λ step whole nought.
-      rw (whole, nought) (ap (λ (l : List ℕ). take 3 (tens l)) (append-nil (a ++ (b ++ c))) ∙ ap (take 3) (tens-of a b c t)))
+      (λ step all none.
+      rw (all, none) (ap (λ (l : List ℕ). take 3 (tens l)) (append-nil (a ++ (b ++ c))) ∙ ap (take 3) (tens-of a b c t)))

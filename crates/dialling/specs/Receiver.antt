@@ -2,12 +2,12 @@
 use Prim.Native.Nat.{ℕ}
 use mathlib.Core.List.{List, [], _∷_, _++_}
 use mathlib.Core.Bool.{true, false, cond}
-use lib.Dec.{ltb, eqb}
-use lib.ListN.{take}
+use lib.Dec.{eqb}
+use lib.ListN.{replicate}
 use Rattle.refusal.specs.Numbers.{sound}
 use Rattle.counts.specs.Round.{step}
 use Rattle.counts.specs.declared.DigitCount.{DigitCount}
-use Rattle.replay.specs.Rule.{stepTaken, fillCount, carriedCount, newest}
+use Rattle.replay.specs.Rule.{stepTaken, fillCount, carriedCount, unusedCount, newest}
 use Rattle.digits.specs.declared.layout.Window.{Window}
 use Rattle.digits.specs.declared.layout.Digits.{Digits}
 use Rattle.digits.specs.declared.layout.DigitsRead.{DigitsRead}
@@ -27,17 +27,13 @@ farthest = 255
 abbrev pub stepFrom : Receiver → DigitCount → ℕ
 stepFrom r new = stepTaken (r .heard) (step 8 (r .last .0) (new .0))
 
--- "A fill repeats the last state, edge 0"
+-- "A fill repeats the last state, edge 0"; where there are none, its place is unused.
 abbrev pub fillOf : Receiver → ℕ → Window
-fillOf r step = cond (ltb 3 step) (record { on = r .on; edge = 0; code = r .code }) offWindow
+fillOf r step = cond (eqb (fillCount step) 0) offWindow (record { on = r .on; edge = 0; code = r .code })
 
--- "unused places off"
-abbrev pub places : List Window → List Window
-places windows = take 3 (windows ++ (offWindow ∷ offWindow ∷ offWindow ∷ []))
-
--- "the newest .., oldest first"
+-- "the newest .., oldest first", then "unused places off"
 abbrev pub periodsOf : Digits → ℕ → List Window
-periodsOf d step = places (newest step (d .previous ∷ d .recent ∷ d .current ∷ []))
+periodsOf d step = newest step (d .previous ∷ d .recent ∷ d .current ∷ []) ++ replicate (unusedCount step) offWindow
 
 -- "Step 0: digits change nothing (house)". Else the newest period carried is the last state.
 abbrev pub receiverAfter : Receiver → Digits → ℕ → Receiver
@@ -70,7 +66,7 @@ passedOver r number =
       fills = 0;
       fill = offWindow;
       carried = 0;
-      periods = places [];
+      periods = replicate 3 offWindow;
       receiver = r;
     }
 

@@ -1,9 +1,11 @@
 -- The digit sender, one entry per 20 ms (document 01, "Senders, per 20 ms").
 use Prim.Native.Nat.{ℕ, _-_}
+use mathlib.Core.List.{[], _∷_}
 use mathlib.Core.Bool.{Bool, true, false, not, cond}
 use lib.Dec.{ltb, eqb}
 use lib.IntN.{ℤ}
 use Rattle.refusal.specs.Numbers.{valueOutOfRange, edgeWithoutChange}
+use Rattle.refusal.specs.Order.{_gives_, inOrder}
 use Rattle.counts.specs.Round.{onward}
 use Rattle.levels.specs.Level.{codeOf}
 use Rattle.digits.specs.declared.layout.Window.{Window}
@@ -97,7 +99,10 @@ refused s number = record { answer = BadEntry number; sender = s }
 -- "(17; 15 comes first)"
 unfoldable pub sending : Sender → Entry → Taken
 sending s e =
-    cond (windowWrong (windowIn e)) (refused s valueOutOfRange)
-    (cond (levelLow (codeOf 31 (e .level))) (refused s valueOutOfRange)
-    (cond (strayEdge s (windowIn e)) (refused s edgeWithoutChange)
-    (period s (windowIn e) (e .level))))
+    inOrder
+    (windowWrong (windowIn e) gives valueOutOfRange
+    ∷ levelLow (codeOf 31 (e .level)) gives valueOutOfRange
+    ∷ strayEdge s (windowIn e) gives edgeWithoutChange
+    ∷ [])
+    (refused s)
+    (period s (windowIn e) (e .level))

@@ -4,7 +4,6 @@ use digits::layout::Digits;
 use digits::layout::DigitsRead;
 use digits::layout::Window;
 ghost use mathlib.Core.Path.{_≡_};
-ghost use Rattle.replay.specs.Rule.{fillCount, carriedCount};
 ghost use Rattle.dialling.specs.Receiver.{freshReceiver, stepFrom, fillOf, periodsOf, receiverAfter, appended, passedOver, received, voiceHeard};
 
 // What the next payload is held against: whether one was heard, its sequence, and the state that a fill repeats.
@@ -38,41 +37,26 @@ pub fn fresh() -> Receiver
     }
 }
 
-// The step to a payload's sequence; 3 for the first payload.
-fn step_of(receiver: Receiver, new: DigitCount) -> u8
+// The step that a payload takes, by its sequence.
+fn step_from(receiver: Receiver, new: DigitCount) -> u8
     ensures { λ r. ⌜ r ≡ stepFrom receiver new ⌝ }
 {
-    if receiver.heard {
-        let last = receiver.last;
-        return last.step_to(new);
-    }
-    3
-}
-
-fn fill_count(step: u8) -> u8
-    ensures { λ r. ⌜ r ≡ fillCount step ⌝ }
-{
-    if 3 < step { step - 3 } else { 0 }
+    let last = receiver.last;
+    replay::step_taken(receiver.heard, last.step_to(new))
 }
 
 // The content of the fills; an unused place where there are none.
 fn fill_of(receiver: Receiver, step: u8) -> Window
     ensures { λ r. ⌜ r ≡ fillOf receiver step ⌝ }
 {
-    if 3 < step {
-        return Window {
-            on: receiver.on,
-            edge: 0,
-            code: receiver.code,
-        };
+    if replay::fill_count(step) == 0 {
+        return digits::layout::off_window();
     }
-    digits::layout::off_window()
-}
-
-fn carried_count(step: u8) -> u8
-    ensures { λ r. ⌜ r ≡ carriedCount step ⌝ }
-{
-    if step < 3 { step } else { 3 }
+    Window {
+        on: receiver.on,
+        edge: 0,
+        code: receiver.code,
+    }
 }
 
 // The newest periods of a payload, oldest first.
@@ -91,6 +75,7 @@ fn periods_of(digits: Digits, step: u8) -> [Window; 3]
     }
 }
 
+// The receiver after an accepted payload.
 fn receiver_after(receiver: Receiver, digits: Digits, step: u8) -> Receiver
     ensures { λ r. ⌜ r ≡ receiverAfter receiver digits step ⌝ }
 {
@@ -113,9 +98,9 @@ fn appended(receiver: Receiver, digits: Digits, step: u8) -> Received
 {
     Received {
         number: refusal::SOUND,
-        fills: fill_count(step),
+        fills: replay::fill_count(step),
         fill: fill_of(receiver, step),
-        carried: carried_count(step),
+        carried: replay::carried_count(step),
         periods: periods_of(digits, step),
         receiver: receiver_after(receiver, digits, step),
     }
@@ -144,7 +129,7 @@ pub fn receive(receiver: Receiver, payload: &[u8]) -> Received
         DigitsRead::BadDigits(number) => passed_over(receiver, number),
         DigitsRead::Dialled(digits) => {
             let sequence = digits.sequence;
-            appended(receiver, digits, step_of(receiver, sequence))
+            appended(receiver, digits, step_from(receiver, sequence))
         }
     }
 }

@@ -1,3 +1,4 @@
+pub mod Steps
 pub mod Ranges
 pub mod Sublists
 pub mod Replay

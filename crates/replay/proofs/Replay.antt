@@ -27,7 +27,7 @@ cell-false S arrivals j e = simp e
 two : {A : Type 0} {a a2 b b2 : A} → a ≡ a2 → b ≡ b2 → a ∷ b ∷ [] ≡ a2 ∷ b2 ∷ []
 two p q = cc
 
-three : {A : Type 0} {a a2 b b2 c c2 : A} → a ≡ a2 → b ≡ b2 → c ≡ c2 → a ∷ b ∷ c ∷ [] ≡ a2 ∷ b2 ∷ c2 ∷ []
+pub three : {A : Type 0} {a a2 b b2 c c2 : A} → a ≡ a2 → b ≡ b2 → c ≡ c2 → a ∷ b ∷ c ∷ [] ≡ a2 ∷ b2 ∷ c2 ∷ []
 three p q r = cc
 
 -- What a step of d appends: the cells from a + 3 on, where the payload b = a + d arrives.

@@ -1,8 +1,7 @@
 -- The receivers' rule, once for digits and signalling (document 01, "Receivers"): which periods a payload appends, by its step.
-use Prim.Native.Nat.{ℕ, _-_}
+use Prim.Native.Nat.{ℕ, _-_, min}
 use mathlib.Core.List.{List}
 use mathlib.Core.Bool.{Bool, cond}
-use lib.Dec.{ltb}
 use lib.ListN.{drop}
 
 -- "First payload: append all three windows (house)": a step of 3.
@@ -15,8 +14,12 @@ fillCount step = step - 3
 
 -- "Step 1, 2, 3: the newest 1, 2, 3", and three from there on.
 abbrev pub carriedCount : ℕ → ℕ
-carriedCount step = cond (ltb step 3) step 3
+carriedCount step = min step 3
 
--- So many of the three windows of a payload, the newest; they stand oldest first.
+-- How many of the three windows of a payload are not appended, and leave their places unused.
+abbrev pub unusedCount : ℕ → ℕ
+unusedCount step = 3 - step
+
+-- The newest windows; they stand oldest first.
 abbrev pub newest : {A : Type 0} → ℕ → List A → List A
-newest step windows = drop (3 - step) windows
+newest step windows = drop (unusedCount step) windows

@@ -9,7 +9,7 @@ use Rattle.seizing.specs.declared.sender.Sender.{Sender}
 use Rattle.seizing.specs.declared.receiver.Receiver.{Receiver}
 use Rattle.signalling.specs.Layout.{halves, nothing, signallingRead, allAllowed}
 use Rattle.seizing.specs.Sender.{senderFrom, allEqual, period, sent}
-use Rattle.seizing.specs.Receiver.{freshReceiver, replayed, receivedRead, received}
+use Rattle.seizing.specs.Receiver.{freshReceiver, received}
 
 -- a payload: its first octet, then thirty samples of which the first two are 1, the last 2 and the others 4
 abbrev payload : ℕ → List ℕ
@@ -27,7 +27,7 @@ pub example-10 :
     × (received (heard 126) (payload 1) .carried ≡ 3)
     × (received (heard 126) (payload 2) .fills ≡ 1)
     × (received (heard 126) (payload 2) .carried ≡ 3)
-unfolding signallingRead halves receivedRead replayed
+unfolding signallingRead halves received
 example-10 = (refl, refl, refl, refl)
 
 -- the first payload appends three and never fills, whatever its number
@@ -41,7 +41,7 @@ pub first-payload :
       periods = samples;
       receiver = record { heard = true; last = record { 0 = 100 }; tail = 2; value = 2; alarm = true };
     }
-unfolding signallingRead halves receivedRead replayed
+unfolding signallingRead halves received
 first-payload = refl
 
 -- a step of 0 sets the current value to the payload's first sample, follows the alarm, and leaves the record's last sample
@@ -55,17 +55,17 @@ pub step-0 :
       periods = replicate 30 0;
       receiver = record { heard = true; last = record { 0 = 100 }; tail = 2; value = 3; alarm = true };
     }
-unfolding signallingRead halves receivedRead replayed
+unfolding signallingRead halves received
 step-0 = refl
 
 -- the newest one of three, then unused places
 pub step-1 : received (heard 127) (payload 0) .periods ≡ replicate 9 4 ++ (2 ∷ []) ++ replicate 20 0
-unfolding signallingRead halves receivedRead replayed
+unfolding signallingRead halves received
 step-1 = refl
 
 -- fills repeat the last sample of the record, not the current value
 pub fill-content : received (received (heard 100) (100 ∷ 3 ∷ replicate 14 85) .receiver) (payload 104) .fill ≡ 2
-unfolding signallingRead halves receivedRead replayed
+unfolding signallingRead halves received
 fill-content = refl
 
 abbrev entry : Bool → ℕ → Entry

@@ -1,4 +1,3 @@
-pub mod Words
 pub mod Windows
 pub mod SenderCases
 pub mod ReceiverCases

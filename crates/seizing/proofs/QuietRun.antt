@@ -1,6 +1,6 @@
 -- The claim on a run of quiet periods: what the count of the run is before each, and what is done with it.
 use Prim.Native.Nat.{ℕ, zero, suc, _+_, _-_, _%_, _<_, _≤_}
-use mathlib.Core.Path.{_≡_, sym, ap, subst, _∙_}
+use mathlib.Core.Path.{_≡_, refl, sym, ap, subst, _∙_}
 use mathlib.Core.Bool.{Bool, true}
 use mathlib.Core.Logic.{_⊎_, inl, inr, ⊎-elim}
 use native.Mathlib.Omega.{arith}
@@ -9,9 +9,11 @@ use Rattle.octets.proofs.Order.{lt-or-le}
 use Rattle.seizing.specs.declared.sender.Entry.{Entry}
 use Rattle.seizing.specs.declared.sender.Sender.{Sender}
 use Rattle.seizing.specs.declared.sender.Sent.{Sent}
+use Rattle.seizing.specs.declared.sender.Decision.{Decision}
+use Rattle.seizing.specs.declared.sender.Decision.the-variants.{Sends, Repeats, Rests}
 use Rattle.signalling.specs.Layout.{allAllowed}
-use Rattle.seizing.specs.Sender.{isQuiet, decision, runAfter, period, sent, before}
-use Rattle.seizing.specs.Claims.{inQuietRun, QuietRun}
+use Rattle.seizing.specs.Sender.{isQuiet, decision, runAfter, decisionOf, period, sent}
+use Rattle.seizing.specs.Claims.{before, inQuietRun, QuietRun}
 use Rattle.seizing.proofs.SenderCases as cases
 
 -- the count before period n of the run, from 0: n itself, and from 25 on 25 more than what goes round at 250
@@ -51,9 +53,14 @@ decided n run (inr (many, is)) =
     (lt-or-le run 274)
 
 -- a period that is taken counts the run on
-counts-on : (s : Sender) (e : Entry) → allAllowed 10 0 (e .samples) ≡ true → sent s e .sender .quiet ≡ runAfter (isQuiet s e) (s .quiet)
+decided-counts : (s : Sender) (e : Entry) (d : Decision) → period s e d .sender .quiet ≡ runAfter (isQuiet s e) (s .quiet)
 unfolding period
-counts-on s e fair = ap (λ (r : Sent). r .sender .quiet) (cases.taken s e fair)
+decided-counts s e Sends = refl
+decided-counts s e Repeats = refl
+decided-counts s e Rests = refl
+
+counts-on : (s : Sender) (e : Entry) → allAllowed 10 0 (e .samples) ≡ true → sent s e .sender .quiet ≡ runAfter (isQuiet s e) (s .quiet)
+counts-on s e fair = ap (λ (r : Sent). r .sender .quiet) (cases.taken s e fair) ∙ decided-counts s e (decisionOf s e)
 
 module _ (s : Sender) (entries : ℕ → Entry) (begins : s .quiet ≡ 0) where
   runs :

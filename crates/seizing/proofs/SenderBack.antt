@@ -18,8 +18,8 @@ use Rattle.seizing.specs.declared.sender.Sent.{Sent}
 use Rattle.seizing.specs.declared.sender.Decision.{Decision}
 use Rattle.seizing.specs.declared.sender.Decision.the-variants.{Sends, Repeats, Rests}
 use Rattle.signalling.specs.Layout.{allowed, allAllowed, firstOctet, pairs, signallingRead, signallingMade}
-use Rattle.seizing.specs.Sender.{Proper, senderFrom, windowsAfter, decisionOf, senderAfter, payloadOf, period, sent}
-use Rattle.seizing.specs.Claims.{SenderStarts, SenderStays, SentReadsBack}
+use Rattle.seizing.specs.Sender.{senderFrom, windowsAfter, decisionOf, afterSent, afterUnsent, payloadOf, period, sent}
+use Rattle.seizing.specs.Claims.{Proper, SenderStarts, SenderStays, SentReadsBack}
 use Rattle.signalling.proofs.Samples.{allowed-looks, each-passes, all-pass}
 use Rattle.signalling.proofs.LayoutBack.{Fitting, made-octets, signalling-reads-back}
 use Rattle.seizing.proofs.SenderCases as cases
@@ -68,27 +68,31 @@ module _ (s : Sender) (e : Entry) (proper : Proper s) (ten : length (e .samples)
           let fresh = each-allowed (e .samples) 10 0 fair (j - 20) (omega arith) in
           ap allowed (ap (λ (k : ℕ). getD (front ++ e .samples) k 0) (sym place) ∙ getD-append-add front (e .samples) (j - 20) 0 ∙ ap (λ (k : ℕ). getD (e .samples) k 0) (sym (zero-add (j - 20)))) ∙ fresh
 
-  pub after-proper : (d : Decision) → Proper (senderAfter d s e)
-  after-proper Sends =
+  level : allowed (getD (e .samples) 9 0) ≡ true
+  level = each-allowed (e .samples) 10 0 fair 9 (omega arith)
+
+  sent-proper : Proper (afterSent s e)
+  sent-proper =
       record {
         thirty = length-append (drop 10 (s .windows)) (e .samples) ∙ rw (length-drop 10 (s .windows), proper .thirty, ten);
         fair = windows-fair;
         within = omega arith;
-        level = each-allowed (e .samples) 10 0 fair 9 (omega arith);
+        level = level;
       }
-  after-proper Repeats =
-      record { thirty = proper .thirty; fair = proper .fair; within = proper .within; level = each-allowed (e .samples) 10 0 fair 9 (omega arith) }
-  after-proper Rests =
-      record { thirty = proper .thirty; fair = proper .fair; within = proper .within; level = each-allowed (e .samples) 10 0 fair 9 (omega arith) }
 
-  pub period-sender : sent s e .sender ≡ senderAfter (decisionOf s e) s e
+  unsent-proper : Proper (afterUnsent s e)
+  unsent-proper = record { thirty = proper .thirty; fair = proper .fair; within = proper .within; level = level }
+
+  period-proper : (d : Decision) → Proper (period s e d .sender)
   unfolding period
-  period-sender = ap (λ (r : Sent). r .sender) (cases.taken s e fair)
+  period-proper Sends = sent-proper
+  period-proper Repeats = unsent-proper
+  period-proper Rests = unsent-proper
 
 pub sender-stays : SenderStays
 sender-stays s e proper ten =
-    either (λ fair. subst Proper (sym (period-sender s e proper ten fair)) (after-proper s e proper ten fair (decisionOf s e)))
-    (λ wrong. subst Proper (sym (ap (λ (r : Sent). r .sender) (cases.refused s e wrong))) proper)
+    either (λ fair. subst (λ (r : Sent). Proper (r .sender)) (sym (cases.taken s e fair)) (period-proper s e proper ten fair (decisionOf s e)))
+    (λ wrong. subst (λ (r : Sent). Proper (r .sender)) (sym (cases.refused s e wrong)) proper)
     (allAllowed 10 0 (e .samples))
     refl
 
@@ -107,11 +111,11 @@ payload-back s alarm proper =
     let is-made : signallingMade payload ≡ made octets = made-octets payload fits in
     (octets, is-made, signalling-reads-back payload octets (proper .thirty) is-made)
 
-due-back : (d : Decision) (s : Sender) (e : Entry) → Proper (senderAfter d s e) → period d s e .due ≡ true → Back (period d s e .signalling)
+due-back : (s : Sender) (e : Entry) (d : Decision) → Proper (period s e d .sender) → period s e d .due ≡ true → Back (period s e d .signalling)
 unfolding period
-due-back Sends s e proper due = payload-back (senderAfter Sends s e) (e .alarm) proper
-due-back Repeats s e proper due = payload-back (senderAfter Repeats s e) (e .alarm) proper
-due-back Rests s e proper due = clash false due refl
+due-back s e Sends proper due = payload-back (afterSent s e) (e .alarm) proper
+due-back s e Repeats proper due = payload-back (afterUnsent s e) (e .alarm) proper
+due-back s e Rests proper due = clash false due refl
 
 pub sent-reads-back : SentReadsBack
 sent-reads-back s e proper ten due =
@@ -119,7 +123,7 @@ sent-reads-back s e proper ten due =
     (λ fair.
     let is = cases.taken s e fair in
     subst (λ (r : Sent). Back (r .signalling)) (sym is)
-    (due-back (decisionOf s e) s e (after-proper s e proper ten fair (decisionOf s e)) (ap (λ (r : Sent). r .due) (sym is) ∙ due)))
+    (due-back s e (decisionOf s e) (period-proper s e proper ten fair (decisionOf s e)) (ap (λ (r : Sent). r .due) (sym is) ∙ due)))
     (λ wrong. clash (sent s e .due) due (ap (λ (r : Sent). r .due) (cases.refused s e wrong)))
     (allAllowed 10 0 (e .samples))
     refl

@@ -1,9 +1,8 @@
-// Receiving signalling (document 01, "Receivers"; FRF.11, Annex B).
+// The signalling receiver (document 01, "Receivers").
 use counts::SignallingCount;
 use signalling::layout::Signalling;
 ghost use mathlib.Core.Path.{_≡_};
-ghost use Rattle.replay.specs.Rule.{fillCount, carriedCount};
-ghost use Rattle.seizing.specs.Receiver.{freshReceiver, stepFrom, fillOf, unused, periodsOf, receiverAfter, replayed, received};
+ghost use Rattle.seizing.specs.Receiver.{freshReceiver, stepFrom, fillOf, periodsOf, receiverAfter, appended, passedOver, received};
 
 // A receiver: whether a payload was accepted before, and its number; the last sample of the record; the current value; the
 // alarm.
@@ -39,61 +38,38 @@ pub fn fresh() -> Receiver
     }
 }
 
-// The step to a new number; the first payload takes a step of three.
+// The step that a payload takes, by its sequence.
 fn step_from(receiver: Receiver, new: SignallingCount) -> u8
     ensures { λ r. ⌜ r ≡ stepFrom receiver new ⌝ }
 {
-    if receiver.heard {
-        let last = receiver.last;
-        return last.step_to(new);
+    let last = receiver.last;
+    replay::step_taken(receiver.heard, last.step_to(new))
+}
+
+// The content of the fills, ten of one sample each; 0 where there are none.
+fn fill_of(receiver: Receiver, step: u8) -> u8
+    ensures { λ r. ⌜ r ≡ fillOf receiver step ⌝ }
+{
+    if replay::fill_count(step) == 0 {
+        0
+    } else {
+        receiver.tail
     }
-    3
 }
 
-// How many filled periods a step appends.
-fn fill_count(step: u8) -> u8
-    ensures { λ r. ⌜ r ≡ fillCount step ⌝ }
-{
-    if 3 < step { step - 3 } else { 0 }
-}
-
-// The sample of the filled periods, where there are any.
-fn fill_of(step: u8, receiver: Receiver) -> u8
-    ensures { λ r. ⌜ r ≡ fillOf step receiver ⌝ }
-{
-    if 3 < step { receiver.tail } else { 0 }
-}
-
-// How many carried periods a step appends.
-fn carried_count(step: u8) -> u8
-    ensures { λ r. ⌜ r ≡ carriedCount step ⌝ }
-{
-    if step < 3 { step } else { 3 }
-}
-
-// The samples of the windows that are not carried.
-fn unused_of(step: u8) -> usize
-    ensures { λ r. ⌜ r ≡ unused step ⌝ }
-{
-    if step < 3 {
-        return (3 - step) as usize * 10;
-    }
-    0
-}
-
-// The carried periods, from place 0 on.
-fn periods_of(step: u8, samples: [u8; 30]) -> [u8; 30]
-    ensures { λ r. ⌜ r ≡ periodsOf step samples ⌝ }
+// The newest periods of a payload, oldest first, from place 0 on.
+fn periods_of(samples: [u8; 30], step: u8) -> [u8; 30]
+    ensures { λ r. ⌜ r ≡ periodsOf samples step ⌝ }
 {
     let mut periods = [0u8; 30];
-    let from = unused_of(step);
-    octets::put_both(&mut periods, 0, &samples[from..], b"");
+    let from = octets::wide(3 - replay::carried_count(step)) * 10;
+    octets::put_octets(&mut periods, 0, &samples[from..]);
     periods
 }
 
-// The receiver after a payload.
-fn receiver_after(step: u8, receiver: Receiver, signalling: Signalling) -> Receiver
-    ensures { λ r. ⌜ r ≡ receiverAfter step receiver signalling ⌝ }
+// The receiver after an accepted payload.
+fn receiver_after(receiver: Receiver, signalling: Signalling, step: u8) -> Receiver
+    ensures { λ r. ⌜ r ≡ receiverAfter receiver signalling step ⌝ }
 {
     let samples = signalling.samples;
     let sequence = signalling.sequence;
@@ -115,24 +91,36 @@ fn receiver_after(step: u8, receiver: Receiver, signalling: Signalling) -> Recei
     }
 }
 
-// What an accepted payload appends.
-fn replay(step: u8, receiver: Receiver, signalling: Signalling) -> Received
-    ensures { λ r. ⌜ r ≡ replayed step receiver signalling ⌝ }
+// What an accepted payload appends, by its step.
+fn appended(receiver: Receiver, signalling: Signalling, step: u8) -> Received
+    ensures { λ r. ⌜ r ≡ appended receiver signalling step ⌝ }
 {
     let samples = signalling.samples;
-    let periods = periods_of(step, samples);
-    let after = receiver_after(step, receiver, signalling);
     Received {
         number: refusal::SOUND,
-        fills: fill_count(step),
-        fill: fill_of(step, receiver),
-        carried: carried_count(step),
-        periods: periods,
-        receiver: after,
+        fills: replay::fill_count(step),
+        fill: fill_of(receiver, step),
+        carried: replay::carried_count(step),
+        periods: periods_of(samples, step),
+        receiver: receiver_after(receiver, signalling, step),
     }
 }
 
-// Takes a payload.
+// A refused payload changes nothing.
+fn passed_over(receiver: Receiver, number: u8) -> Received
+    ensures { λ r. ⌜ r ≡ passedOver receiver number ⌝ }
+{
+    Received {
+        number: number,
+        fills: 0,
+        fill: 0,
+        carried: 0,
+        periods: [0u8; 30],
+        receiver: receiver,
+    }
+}
+
+// Takes a signalling payload.
 pub fn receive(receiver: Receiver, payload: &[u8]) -> Received
     ensures { λ r. ⌜ r ≡ received receiver (now (payload .entry)) ⌝ }
 {
@@ -140,14 +128,7 @@ pub fn receive(receiver: Receiver, payload: &[u8]) -> Received
     if read.number == refusal::SOUND {
         let signalling = read.signalling;
         let sequence = signalling.sequence;
-        return replay(step_from(receiver, sequence), receiver, signalling);
+        return appended(receiver, signalling, step_from(receiver, sequence));
     }
-    Received {
-        number: read.number,
-        fills: 0,
-        fill: 0,
-        carried: 0,
-        periods: [0u8; 30],
-        receiver: receiver,
-    }
+    passed_over(receiver, read.number)
 }

@@ -2,9 +2,8 @@
 use counts::SignallingCount;
 use signalling::layout::Signalling;
 ghost use mathlib.Core.Path.{_≡_};
-ghost use Prim.Native.Nat.{_<_};
 ghost use Rattle.signalling.specs.Layout.{allAllowed};
-ghost use Rattle.seizing.specs.Sender.{started, eight, allEqual, decision, runAfter, windowsAfter, decisionOf, goingOut, nothingDue, period, sent};
+ghost use Rattle.seizing.specs.Sender.{started, allEqual, decision, runAfter, windowsAfter, decisionOf, goingOut, nothingDue, period, sent};
 
 // What a period brings: the alarm bit and ten samples, oldest first.
 pub struct Entry {
@@ -70,46 +69,32 @@ pub fn start(value: u8) -> Started
     }
 }
 
-fn wide(octet: u8) -> u64
-    ensures { λ r. ⌜ (r ≡ octet) × (r < 256) ⌝ }
-{
-    octet as u64
-}
-
-// The first eight samples as one number, the first lowest.
-fn first_eight(samples: [u8; 10]) -> u64
-    ensures { λ r. ⌜ r ≡ eight samples ⌝ }
-{
-    wide(samples[0])
-        + wide(samples[1]) * 256
-        + wide(samples[2]) * 65536
-        + wide(samples[3]) * 16777216
-        + wide(samples[4]) * 4294967296
-        + wide(samples[5]) * 1099511627776
-        + wide(samples[6]) * 281474976710656
-        + wide(samples[7]) * 72057594037927936
-}
-
-// Whether all ten samples are allowed: none has a bit of the high half.
+// Whether all ten samples are allowed.
 fn ten_allowed(samples: [u8; 10]) -> bool
     ensures { λ r. ⌜ r ≡ allAllowed 10 0 samples ⌝ }
 {
-    // f0 eight times, in hex
-    if first_eight(samples) & 17361641481138401520 == 0 {
-        return samples[8] | samples[9] < 16;
+    let mut i: usize = 0;
+    while i < 10 {
+        if !signalling::layout::allowed(samples[i]) {
+            return false;
+        }
+        i += 1;
     }
-    false
+    true
 }
 
 // Whether all ten samples equal one.
 fn all_equal(sample: u8, samples: [u8; 10]) -> bool
     ensures { λ r. ⌜ r ≡ allEqual sample 10 0 samples ⌝ }
 {
-    // 01 eight times, in hex
-    if first_eight(samples) == wide(sample) * 72340172838076673 {
-        return wide(samples[8]) + wide(samples[9]) * 256 == wide(sample) * 257;
+    let mut i: usize = 0;
+    while i < 10 {
+        if sample != samples[i] {
+            return false;
+        }
+        i += 1;
     }
-    false
+    true
 }
 
 // What is done with a period, by whether it is quiet and the quiet periods of the run before it.
@@ -151,8 +136,8 @@ fn windows_after(windows: [u8; 30], samples: [u8; 10]) -> [u8; 30]
 }
 
 // What goes out of a state: its last number and windows, with the alarm of this period.
-fn go_out(alarm: bool, sender: Sender) -> Sent
-    ensures { λ r. ⌜ r ≡ goingOut alarm sender ⌝ }
+fn go_out(sender: Sender, alarm: bool) -> Sent
+    ensures { λ r. ⌜ r ≡ goingOut sender alarm ⌝ }
 {
     let last = sender.last;
     let windows = sender.windows;
@@ -169,8 +154,8 @@ fn go_out(alarm: bool, sender: Sender) -> Sent
 }
 
 // Nothing goes out.
-fn nothing_due(number: u8, sender: Sender) -> Sent
-    ensures { λ r. ⌜ r ≡ nothingDue number sender ⌝ }
+fn nothing_due(sender: Sender, number: u8) -> Sent
+    ensures { λ r. ⌜ r ≡ nothingDue sender number ⌝ }
 {
     Sent {
         number: number,
@@ -186,7 +171,7 @@ fn nothing_due(number: u8, sender: Sender) -> Sent
 
 // A period whose samples are allowed.
 fn take_period(sender: Sender, entry: Entry) -> Sent
-    ensures { λ r. ⌜ r ≡ period (decisionOf sender entry) sender entry ⌝ }
+    ensures { λ r. ⌜ r ≡ period sender entry (decisionOf sender entry) ⌝ }
 {
     let samples = entry.samples;
     let before = samples[9];
@@ -208,10 +193,10 @@ fn take_period(sender: Sender, entry: Entry) -> Sent
                 quiet: run,
                 windows: windows_after(windows, samples),
             };
-            go_out(entry.alarm, next)
+            go_out(next, entry.alarm)
         }
-        Decision::Repeats => go_out(entry.alarm, same),
-        Decision::Rests => nothing_due(refusal::SOUND, same),
+        Decision::Repeats => go_out(same, entry.alarm),
+        Decision::Rests => nothing_due(same, refusal::SOUND),
     }
 }
 
@@ -223,5 +208,5 @@ pub fn send(sender: Sender, entry: Entry) -> Sent
     if ten_allowed(samples) {
         return take_period(sender, entry);
     }
-    nothing_due(refusal::VALUE_OUT_OF_RANGE, sender)
+    nothing_due(sender, refusal::VALUE_OUT_OF_RANGE)
 }

@@ -18,8 +18,8 @@ passed-over-requires c κs = search needs
 enum-known-digits : tie.Need-enum-known-digits
 enum-known-digits c = search needs
 
-step-of-requires : tie.Need-step-of-requires
-step-of-requires c κs = search needs
+step-from-requires : tie.Need-step-from-requires
+step-from-requires c κs = search needs
 
 appended-requires : tie.Need-appended-requires
 appended-requires c κs = search needs
@@ -31,7 +31,7 @@ returns-2 : tie.Need-returns-2
 returns-2 c =
     let r = c .before .before .before .before .before .before .before .before .args .receiver in
     c .appended .ensures
-    ∙ ap (appended r (c .before .before .before .before .digits .given .0 .0)) (c .before .step-of .ensures)
+    ∙ ap (appended r (c .before .before .before .before .digits .given .0 .0)) (c .before .step-from .ensures)
     ∙ sym (cases.received-by _ _ _ (sym (c .before .before .before .before .before .before .read-digits .ensures) ∙ c .before .before .before .before .digits .given .1))
 
 pub receive-spec : {M : Type 1} → statement M
@@ -42,7 +42,7 @@ receive-spec =
     enum-known-number
     passed-over-requires
     enum-known-digits
-    step-of-requires
+    step-from-requires
     appended-requires
     returns
     returns-2)

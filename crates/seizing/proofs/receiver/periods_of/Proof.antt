@@ -1,54 +1,60 @@
 -- `seizing::receiver::periods_of` meets its contract.
-use Prim.Native.Nat.{_≤_}
+use Prim.Native.Nat.{_*_}
 use mathlib.Core.Path.{_≡_}
-use mathlib.Core.List.{[]}
 use native.Mathlib.Omega.{arith}
 use lib.ListN.{length}
-use Rattle.seizing.specs.Receiver.{unused}
+use Rattle.replay.specs.Rule.{unusedCount}
 use Rattle.seizing.proofs.Windows as windows
 use borrow.Author.Needs.{needs}
 use Rattle.seizing.proofs.receiver.periods_of.Statement.{statement}
 use Rattle.seizing.proofs.receiver.periods_of.Tie as tie
 
-unused-of-requires : tie.Need-unused-of-requires
-unused-of-requires c κs = search needs
+carried-count-requires : tie.Need-carried-count-requires
+carried-count-requires c κs = search needs
 
-slice-aggregate-put-both : tie.Need-slice-aggregate-put-both
-slice-aggregate-put-both c = search needs
+sub-wide : tie.Need-sub-wide
+sub-wide c = search needs
 
-sub-put-both : tie.Need-sub-put-both
-sub-put-both c = search needs
+wide-requires : tie.Need-wide-requires
+wide-requires c κs = search needs
 
-part-put-both-start : tie.Need-part-put-both-start
-part-put-both-start c = search needs
+mul-from : tie.Need-mul-from
+mul-from c = search needs
 
-part-put-both-end : tie.Need-part-put-both-end
-part-put-both-end c = search needs
+slice-aggregate-put-octets : tie.Need-slice-aggregate-put-octets
+slice-aggregate-put-octets c = search needs
 
-slice-aggregate-put-both-2 : tie.Need-slice-aggregate-put-both-2
-slice-aggregate-put-both-2 c = search needs
+sub-put-octets : tie.Need-sub-put-octets
+sub-put-octets c = search needs
 
-put-both-requires : tie.Need-put-both-requires
-put-both-requires c κs = search needs
+part-put-octets-start : tie.Need-part-put-octets-start
+part-put-octets-start c = search needs
+
+part-put-octets-end : tie.Need-part-put-octets-end
+part-put-octets-end c = search needs
+
+put-octets-requires : tie.Need-put-octets-requires
+put-octets-requires c κs = search needs
 
 returns : tie.Need-returns
 returns c =
     let a = c .before .before .before .before .before .before .before .args in
-    let thirty : 30 ≡ length (a .t2) = search needs in
-    let from = c .before .before .before .before .before .before .unused-of in
-    let within : from .result ≤ 30 = omega arith in
-    windows.moved-front (from .result) (unused (a .step)) (a .t2) _ (from .ensures)
-    (windows.moved (from .result) (a .t2) [] _ _ thirty within (omega arith) (c .before .put-both .ensures .0) (c .before .put-both .ensures .1))
+    let thirty : 30 ≡ length (a .t1) = search needs in
+    let wide = c .before .before .before .before .before .wide in
+    let left : wide .result ≡ unusedCount (a .step) = omega arith in
+    windows.carried (wide .result * 10) (a .t1) thirty (omega arith) _ _ (c .before .put-octets .ensures) (unusedCount (a .step) * 10) (omega arith)
 
 pub periods-of-spec : {M : Type 1} → statement M
 periods-of-spec =
     tie.close
     (tie.spec
-    unused-of-requires
-    slice-aggregate-put-both
-    sub-put-both
-    part-put-both-start
-    part-put-both-end
-    slice-aggregate-put-both-2
-    put-both-requires
+    carried-count-requires
+    sub-wide
+    wide-requires
+    mul-from
+    slice-aggregate-put-octets
+    sub-put-octets
+    part-put-octets-start
+    part-put-octets-end
+    put-octets-requires
     returns)

@@ -41,37 +41,25 @@ enum-told-3 c = search needs
 nothing-due-requires : tie.Need-nothing-due-requires
 nothing-due-requires c κs = search needs
 
+found : (c : tie.After-decide)
+    → cases.Found (c .before .before .before .before .before .before .args .sender) (c .before .before .before .before .before .before .args .entry) (c .before .before .all-equal .result) (c .before .run-after .result) (c .decide .result)
+found c =
+    record {
+      quiet-is = c .before .before .all-equal .ensures;
+      run-is = c .before .run-after .ensures;
+      told-is = c .decide .ensures;
+    }
+
 returns : tie.Need-returns
 returns c =
-    let a = c .before .before .before .before .before .before .before .before .before .before .before .args in
-    let quiet = c .before .before .before .before .before .before .before .all-equal in
-    let run = c .before .before .before .before .before .before .run-after in
-    let told = c .before .before .before .before .before .decide in
     c .go-out .ensures
-    ∙ cases.sends (a .sender) (a .entry) (quiet .result) (run .result) (told .result) (quiet .ensures) (run .ensures) (told .ensures) _ _
-    (c .before .before .before .enum-told .given .1)
-    (c .before .before .next .ensures)
-    (c .before .windows-after .ensures)
+    ∙ cases.sends (found (c .before .before .before .before .before)) _ _ (c .before .before .before .enum-told .given .1) (c .before .before .next .ensures) (c .before .windows-after .ensures)
 
 returns-2 : tie.Need-returns-2
-returns-2 c =
-    let a = c .before .before .before .before .before .before .before .before .before .args in
-    let quiet = c .before .before .before .before .before .all-equal in
-    let run = c .before .before .before .before .run-after in
-    let told = c .before .before .before .decide in
-    c .go-out2 .ensures
-    ∙ cases.repeats (a .sender) (a .entry) (quiet .result) (run .result) (told .result) (quiet .ensures) (run .ensures) (told .ensures)
-    (c .before .enum-told2 .given .1)
+returns-2 c = c .go-out2 .ensures ∙ cases.repeats (found (c .before .before .before)) (c .before .enum-told2 .given .1)
 
 returns-3 : tie.Need-returns-3
-returns-3 c =
-    let a = c .before .before .before .before .before .before .before .before .before .args in
-    let quiet = c .before .before .before .before .before .all-equal in
-    let run = c .before .before .before .before .run-after in
-    let told = c .before .before .before .decide in
-    c .nothing-due .ensures
-    ∙ cases.rests (a .sender) (a .entry) (quiet .result) (run .result) (told .result) (quiet .ensures) (run .ensures) (told .ensures)
-    (c .before .enum-told3 .given .1)
+returns-3 c = c .nothing-due .ensures ∙ cases.rests (found (c .before .before .before)) (c .before .enum-told3 .given .1)
 
 pub take-period-spec : {M : Type 1} → statement M
 take-period-spec =

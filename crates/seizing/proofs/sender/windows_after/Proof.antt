@@ -30,7 +30,7 @@ returns c =
     let a = c .before .before .before .before .before .before .args in
     let ten : 10 ≡ length (a .t2) = slice-aggregate-put-both-2 (c .before .before) in
     let thirty : 30 ≡ length (a .t1) = search needs in
-    windows.moved-whole 10 (a .t1) (a .t2) _ _ thirty (omega arith) (omega arith) (c .before .put-both .ensures .0) (c .before .put-both .ensures .1) ten
+    windows.moved 10 (a .t1) thirty (omega arith) _ _ (a .t2) ten (c .before .put-both .ensures)
 
 pub windows-after-spec : {M : Type 1} → statement M
 windows-after-spec =

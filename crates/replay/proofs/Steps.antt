@@ -1,21 +1,24 @@
--- What a step appends, and what it leaves.
-use Prim.Native.Nat.{ℕ, zero, suc, _-_, _%_, _^_, _≤_}
+-- The steps by their cases: what each appends, and what a step of 0 tells of the sequence.
+use Prim.Native.Nat.{ℕ, zero, suc, _%_, _^_}
 use mathlib.Core.Path.{_≡_, refl}
+use mathlib.Core.List.{[], _∷_, _++_}
 use mathlib.Core.Bool.{Bool, true, false}
 use native.Mathlib.Omega.{arith}
-use borrow.Author.Tests.{le-ltb}
+use lib.ListN.{take, replicate}
 use Rattle.counts.specs.Round.{step}
 use Rattle.counts.proofs.Laws.{laws}
-use Rattle.replay.specs.Rule.{stepTaken, carriedCount}
+use Rattle.replay.specs.Rule.{stepTaken, carriedCount, unusedCount, newest}
 
 -- by the steps 0, 1, 2, and 3 and more, at which all three windows are carried
-pub by-step : {P : ℕ → Type 0} → P 0 → P 1 → P 2 → ((step : ℕ) → carriedCount step ≡ 3 → 3 - step ≡ 0 → P step) → (step : ℕ) → P step
+pub by-step : {P : ℕ → Type 0} → P 0 → P 1 → P 2 → ((step : ℕ) → carriedCount step ≡ 3 → unusedCount step ≡ 0 → P step) → (step : ℕ) → P step
 by-step p0 p1 p2 more zero = p0
 by-step p0 p1 p2 more (suc zero) = p1
 by-step p0 p1 p2 more (suc (suc zero)) = p2
-by-step {P} p0 p1 p2 more (suc (suc (suc n))) =
-    let far : 3 ≤ suc (suc (suc n)) = omega arith in
-    more (suc (suc (suc n))) (rw (le-ltb (suc (suc (suc n))) 3 far) refl) (omega arith)
+by-step {P} p0 p1 p2 more (suc (suc (suc n))) = more (suc (suc (suc n))) (omega arith) (omega arith)
+
+-- of three places, those in use hold the newest windows, and no others
+pub in-use : {A : Type 0} (a b c off : A) (step : ℕ) → take (carriedCount step) (newest step (a ∷ b ∷ c ∷ []) ++ replicate (unusedCount step) off) ≡ newest step (a ∷ b ∷ c ∷ [])
+in-use a b c off = by-step refl refl refl (λ step three none. rw (three, none) refl)
 
 -- a step of 0 is not that of a first payload, and its sequence is the last one
 pub heard-at-zero : (heard : Bool) (n : ℕ) → stepTaken heard n ≡ 0 → heard ≡ true
