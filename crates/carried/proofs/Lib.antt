@@ -9,3 +9,4 @@ pub mod SignallingSender
 pub mod Signalling
 pub mod SignallingRuns
 pub mod Bounds
+pub mod Trunks

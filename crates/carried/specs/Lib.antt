@@ -4,3 +4,4 @@ pub mod DigitRuns
 pub mod Signalling
 pub mod SignallingRuns
 pub mod Bounds
+pub mod Trunks

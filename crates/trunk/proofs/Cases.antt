@@ -1,7 +1,8 @@
 -- What a trunk tells of a payload, case by case, in the terms of the code.
 use Prim.Native.Nat.{ℕ}
-use mathlib.Core.Path.{_≡_, sym, ap, _∙_}
+use mathlib.Core.Path.{_≡_, refl, sym, ap, _∙_}
 use mathlib.Core.List.{List}
+use mathlib.Core.Bool.{Bool, true, false, cond}
 use borrow.Author.Tests.{eq-eqb, ne-eqb}
 use Rattle.record.specs.declared.table.Found.{Found}
 use Rattle.dialling.specs.declared.receiver.Received as digits
@@ -17,10 +18,19 @@ use Rattle.trunk.specs.declared.Dialled.{Dialled}
 use Rattle.trunk.specs.declared.Told.{Told}
 use Rattle.trunk.specs.Trunk.{nothingDialled, nothingSeized, refusing, dialledTo, seizedTo, digitsTaken, signallingTaken, takenAs, taken}
 
+-- what is told under a layout
+pub as-layout : (t : Trunk) (found : Found) (ptype : ℕ) (p : List ℕ) {l : Layout} → layoutOf found ptype ≡ l → taken t found ptype p ≡ takenAs l t p
+unfolding taken
+as-layout t found ptype p e = ap (λ (x : Layout). takenAs x t p) e
+
+-- either way of a test
+pub picked : {A : Type 0} (P : A → Type 0) (b : Bool) (x y : A) → (b ≡ true → P x) → (b ≡ false → P y) → P (cond b x y)
+picked P true x y px py = px refl
+picked P false x y px py = py refl
+
 -- the layout that was found
 pub chosen : (t : Trunk) (found : Found) (ptype : ℕ) (p : List ℕ) {l m : Layout} → l ≡ layoutOf found ptype → l ≡ m → takenAs m t p ≡ taken t found ptype p
-unfolding taken
-chosen t found ptype p is same = ap (λ (x : Layout). takenAs x t p) (sym same ∙ is)
+chosen t found ptype p is same = sym (as-layout t found ptype p (sym is ∙ same))
 
 -- what the digit receiver answered
 abbrev pub dialledAs : Trunk → digits.Received → Seized → Told

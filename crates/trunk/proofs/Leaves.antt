@@ -6,7 +6,6 @@ use mathlib.Core.Bool.{Bool, true, false, cond}
 use borrow.Author.Tests.{eqb-true}
 use lib.Dec.{eqb}
 use Rattle.refusal.specs.Numbers.{sound}
-use Rattle.record.specs.declared.table.Found.{Found}
 use Rattle.voice.specs.declared.voice.VoiceRead.{VoiceRead}
 use Rattle.voice.specs.declared.voice.VoiceRead.the-variants.{Voice, BadVoice}
 use Rattle.voice.specs.declared.sid.SidRead.{SidRead}
@@ -37,17 +36,8 @@ use Rattle.payload.specs.Content.{Reading, readAs, numberOf, ofVoice, ofDigits,
 use Rattle.trunk.specs.declared.Trunk.{Trunk}
 use Rattle.trunk.specs.declared.Told.{Told}
 use Rattle.trunk.specs.Trunk.{refusing, voiceTaken, dialledTo, seizedTo, faxTaken, sidTaken, dataTaken, takenAs, taken}
+use Rattle.trunk.proofs.Cases.{as-layout, picked}
 use Rattle.trunk.specs.Claims.{NumberIsReadings, RefusedStands, Leaves}
-
--- what is told under a layout
-as-layout : (t : Trunk) (found : Found) (ptype : ℕ) (p : List ℕ) {l : Layout} → layoutOf found ptype ≡ l → taken t found ptype p ≡ takenAs l t p
-unfolding taken
-as-layout t found ptype p e = ap (λ (x : Layout). takenAs x t p) e
-
--- either way of a test
-picked : (P : Told → Type 0) (b : Bool) (x y : Told) → (b ≡ true → P x) → (b ≡ false → P y) → P (cond b x y)
-picked P true x y px py = px refl
-picked P false x y px py = py refl
 
 -- the trunk after each kind of payload
 voice-signalling : (t : Trunk) (read : VoiceRead) → voiceTaken t read .trunk .signalling ≡ t .signalling
