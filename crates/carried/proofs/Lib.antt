@@ -8,3 +8,5 @@ pub mod SignallingSender
 pub mod Signalling
 pub mod SignallingRuns
 pub mod Bounds
+pub mod Trunks
+pub mod Tied

@@ -4,3 +4,5 @@ pub mod DigitRuns
 pub mod Signalling
 pub mod SignallingRuns
 pub mod Bounds
+pub mod Trunks
+pub mod Tied

@@ -1,0 +1,288 @@
+-- Demand 3 of a trunk (specs/Trunks.antt): what comes to it is heard by each receiver as a run of the sender's payloads, with
+-- accepted voice in between for digits.
+use Prim.Native.Nat.{ℕ}
+use mathlib.Core.Path.{_≡_, refl, sym, ap, _∙_}
+use mathlib.Core.List.{List, [], _∷_, _++_}
+use mathlib.Core.Bool.{Bool, cond}
+use lib.Dec.{eqb}
+use lib.ListN.{replicate}
+use Rattle.refusal.specs.Numbers.{sound}
+use Rattle.record.specs.declared.table.Found.{Found}
+use Rattle.voice.specs.declared.voice.VoiceRead.{VoiceRead}
+use Rattle.voice.specs.declared.voice.VoiceRead.the-variants.{Voice, BadVoice}
+use Rattle.voice.specs.declared.sid.SidRead.{SidRead}
+use Rattle.voice.specs.declared.sid.SidRead.the-variants.{Silence, BadSid}
+use Rattle.voice.specs.Voice.{voiceRead}
+use Rattle.voice.specs.Sid.{sidRead}
+use Rattle.data.specs.declared.DataRead.{DataRead}
+use Rattle.data.specs.declared.DataRead.the-variants.{Fragment, BadData}
+use Rattle.data.specs.Data.{dataRead}
+use Rattle.fax.specs.declared.FaxRead.{FaxRead}
+use Rattle.fax.specs.declared.FaxRead.the-variants.{Fax, BadFax}
+use Rattle.fax.specs.Fax.{faxRead}
+use Rattle.digits.specs.declared.layout.Window.{Window}
+use Rattle.digits.specs.declared.layout.Digits.{Digits}
+use Rattle.digits.specs.declared.layout.DigitsRead.{DigitsRead}
+use Rattle.digits.specs.declared.layout.DigitsRead.the-variants.{Dialled, BadDigits}
+use Rattle.digits.specs.Layout.{digitsRead}
+use Rattle.signalling.specs.declared.layout.Signalling.{Signalling}
+use Rattle.signalling.specs.declared.layout.SignallingRead.{SignallingRead}
+use Rattle.signalling.specs.Layout.{signallingRead}
+use Rattle.dialling.specs.declared.receiver.Receiver as digit-receiver
+use Rattle.dialling.specs.declared.receiver.Received as digit-received
+use Rattle.dialling.specs.Receiver as dialling
+use Rattle.seizing.specs.declared.receiver.Receiver as signalling-receiver
+use Rattle.seizing.specs.declared.receiver.Received as signalling-received
+use Rattle.seizing.specs.Receiver as seizing
+use Rattle.payload.specs.declared.layout.Layout.{Layout}
+use Rattle.payload.specs.declared.layout.Layout.the-variants.{OfVoice, OfDigits, OfSignalling, OfFax, OfSid, OfData, NoLayout}
+use Rattle.payload.specs.Layout.{layoutOf}
+use Rattle.payload.specs.Content.{dialled, seized, reads, refused, payloadRead, readAs, ofDigits}
+use Rattle.trunk.specs.declared.Trunk.{Trunk}
+use Rattle.trunk.specs.declared.Told.{Told}
+use Rattle.trunk.specs.Trunk.{freshTrunk, dialledTo, seizedTo, voiceTaken, faxTaken, sidTaken, dataTaken, takenAs, taken}
+use Rattle.trunk.proofs.Cases.{as-layout, picked}
+use Rattle.replay.specs.Periods.{Mark}
+use Rattle.carried.specs.Emissions.{Emission}
+use Rattle.carried.specs.Digits as digits
+use Rattle.carried.specs.Signalling as signalling
+use Rattle.carried.specs.Trunks.{Coming, came, other, payloadsOf, dialledMarks, digitRecord, seizedMarks, signallingRecord, NoDigits, NoSignalling, TrunkDigitsCarried, TrunkSignallingCarried}
+use Rattle.carried.proofs.Digits.{digits-carried}
+use Rattle.carried.proofs.Signalling.{signalling-carried}
+
+-- A telling, as the digit receiver has it: these marks, and this receiver after it.
+pub record ToDigits (x : Told) (marks : List (Mark Window)) (after : digit-receiver.Receiver) : Type 0 where
+  pub appends : dialledMarks (x .dialled) ≡ marks
+  pub leaves : x .trunk .digits ≡ after
+
+-- a payload of the sender
+from-digits : (t : Trunk) (read : DigitsRead) → ToDigits (dialledTo t (dialling.receivedBy (t .digits) read)) (digits.marksOf (dialling.receivedBy (t .digits) read)) (dialling.receivedBy (t .digits) read .receiver)
+from-digits t (Dialled d) = record { appends = refl; leaves = refl }
+from-digits t (BadDigits n) =
+    picked (λ (x : Told). ToDigits x [] (t .digits)) (eqb n sound) _ _ (λ e. record { appends = refl; leaves = refl }) (λ e. record { appends = refl; leaves = refl })
+
+-- what another payload is to the digit receiver: voice, or nothing
+abbrev voiceOf : VoiceRead → List digits.Heard
+voiceOf (Voice sequence coding front) = digits.voice ∷ []
+voiceOf (BadVoice number) = []
+
+abbrev heardAs : Layout → List ℕ → List digits.Heard
+heardAs (OfVoice r) p = voiceOf (voiceRead r p)
+heardAs OfDigits p = []
+heardAs OfSignalling p = []
+heardAs OfFax p = []
+heardAs (OfSid syntax) p = []
+heardAs OfData p = []
+heardAs (NoLayout number) p = []
+
+abbrev receiverBy : digit-receiver.Receiver → List digits.Heard → digit-receiver.Receiver
+receiverBy r [] = r
+receiverBy r (h ∷ hs) = receiverBy (digits.receiverNext r h) hs
+
+other-to-digits : (l : Layout) (t : Trunk) (p : List ℕ) → ((d : Digits) → readAs l p ≡ reads (dialled d) → ⊥) → ToDigits (takenAs l t p) [] (receiverBy (t .digits) (heardAs l p))
+unfolding dialling.received
+other-to-digits (OfVoice r) t p none = go (voiceRead r p)
+  where
+    go : (read : VoiceRead) → ToDigits (voiceTaken t read) [] (receiverBy (t .digits) (voiceOf read))
+    go (Voice sequence coding front) = record { appends = refl; leaves = refl }
+    go (BadVoice n) = record { appends = refl; leaves = refl }
+other-to-digits OfDigits t p none = go (digitsRead p) refl
+  where
+    go : (read : DigitsRead) → digitsRead p ≡ read → ToDigits (dialledTo t (dialling.receivedBy (t .digits) read)) [] (t .digits)
+    go (Dialled d) e = absurd (none d (ap ofDigits e))
+    go (BadDigits n) e =
+        picked (λ (x : Told). ToDigits x [] (t .digits)) (eqb n sound) _ _ (λ e. record { appends = refl; leaves = refl }) (λ e. record { appends = refl; leaves = refl })
+other-to-digits OfSignalling t p none =
+    picked (λ (x : Told). ToDigits x [] (t .digits)) (eqb (seizing.received (t .signalling) p .number) sound) _ _ (λ e. record { appends = refl; leaves = refl })
+    (λ e. record { appends = refl; leaves = refl })
+other-to-digits OfFax t p none = go (faxRead p)
+  where
+    go : (read : FaxRead) → ToDigits (faxTaken t read) [] (t .digits)
+    go (Fax sequence stamp command front) = record { appends = refl; leaves = refl }
+    go (BadFax n) = record { appends = refl; leaves = refl }
+other-to-digits (OfSid syntax) t p none = go (sidRead syntax p)
+  where
+    go : (read : SidRead) → ToDigits (sidTaken t read) [] (t .digits)
+    go (Silence sid) = record { appends = refl; leaves = refl }
+    go (BadSid n) = record { appends = refl; leaves = refl }
+other-to-digits OfData t p none = go (dataRead p)
+  where
+    go : (read : DataRead) → ToDigits (dataTaken t read) [] (t .digits)
+    go (Fragment begins ends sequence) = record { appends = refl; leaves = refl }
+    go (BadData n) = record { appends = refl; leaves = refl }
+other-to-digits (NoLayout n) t p none = record { appends = refl; leaves = refl }
+
+-- the run that the digit receiver hears
+abbrev heardOf : Found → Coming → List digits.Heard
+heardOf found (came p) = digits.came p ∷ []
+heardOf found (other ptype octets) = heardAs (layoutOf found ptype) octets
+
+abbrev runOf : Found → List Coming → List digits.Heard
+runOf found [] = []
+runOf found (c ∷ cs) = heardOf found c ++ runOf found cs
+
+others-silent : (l : Layout) (p : List ℕ) (r : digit-receiver.Receiver) (hs : List digits.Heard) → digits.marks r (heardAs l p ++ hs) ≡ digits.marks (receiverBy r (heardAs l p)) hs
+others-silent (OfVoice rec) p r hs = go (voiceRead rec p)
+  where
+    go : (read : VoiceRead) → digits.marks r (voiceOf read ++ hs) ≡ digits.marks (receiverBy r (voiceOf read)) hs
+    go (Voice sequence coding front) = refl
+    go (BadVoice n) = refl
+others-silent OfDigits p r hs = refl
+others-silent OfSignalling p r hs = refl
+others-silent OfFax p r hs = refl
+others-silent (OfSid syntax) p r hs = refl
+others-silent OfData p r hs = refl
+others-silent (NoLayout n) p r hs = refl
+
+others-no-payload : (l : Layout) (p : List ℕ) (hs : List digits.Heard) → digits.payloadsOf (heardAs l p ++ hs) ≡ digits.payloadsOf hs
+others-no-payload (OfVoice rec) p hs = go (voiceRead rec p)
+  where
+    go : (read : VoiceRead) → digits.payloadsOf (voiceOf read ++ hs) ≡ digits.payloadsOf hs
+    go (Voice sequence coding front) = refl
+    go (BadVoice n) = refl
+others-no-payload OfDigits p hs = refl
+others-no-payload OfSignalling p hs = refl
+others-no-payload OfFax p hs = refl
+others-no-payload (OfSid syntax) p hs = refl
+others-no-payload OfData p hs = refl
+others-no-payload (NoLayout n) p hs = refl
+
+same-payloads : (found : Found) (cs : List Coming) → digits.payloadsOf (runOf found cs) ≡ payloadsOf cs
+same-payloads found [] = refl
+same-payloads found (came p ∷ cs) = ap (λ (ps : List Emission). p ∷ ps) (same-payloads found cs)
+same-payloads found (other ptype octets ∷ cs) = others-no-payload (layoutOf found ptype) octets (runOf found cs) ∙ same-payloads found cs
+
+-- a telling before what follows it, as the digit receiver has both
+joined-digits : {x : Told} {ms : List (Mark Window)} {r : digit-receiver.Receiver} (found : Found) (cs : List Coming) → ToDigits x ms r
+    → ((t : Trunk) → digitRecord found t cs ≡ digits.marks (t .digits) (runOf found cs))
+    → dialledMarks (x .dialled) ++ digitRecord found (x .trunk) cs ≡ ms ++ digits.marks r (runOf found cs)
+joined-digits {x} {ms} {r} found cs to rest =
+    ap (λ (l : List (Mark Window)). dialledMarks (x .dialled) ++ l) (rest (x .trunk))
+    ∙ ap (λ (q : digit-receiver.Receiver). dialledMarks (x .dialled) ++ digits.marks q (runOf found cs)) (to .leaves)
+    ∙ ap (λ (l : List (Mark Window)). l ++ digits.marks r (runOf found cs)) (to .appends)
+
+came-to-digits : (t : Trunk) (found : Found) (p : List ℕ) → layoutOf found 1 ≡ OfDigits
+    → ToDigits (taken t found 1 p) (digits.marksOf (dialling.received (t .digits) p)) (dialling.received (t .digits) p .receiver)
+unfolding dialling.received
+came-to-digits t found p carries = rw (as-layout t found 1 p carries) (from-digits t (digitsRead p))
+
+other-comes-to-digits : (t : Trunk) (found : Found) (ptype : ℕ) (p : List ℕ) → ((d : Digits) → payloadRead found ptype p ≡ reads (dialled d) → ⊥)
+    → ToDigits (taken t found ptype p) [] (receiverBy (t .digits) (heardAs (layoutOf found ptype) p))
+other-comes-to-digits t found ptype p none = rw (as-layout t found ptype p refl) (other-to-digits (layoutOf found ptype) t p none)
+
+digit-record-is : (found : Found) → layoutOf found 1 ≡ OfDigits → (cs : List Coming) → NoDigits found cs → (t : Trunk) → digitRecord found t cs ≡ digits.marks (t .digits) (runOf found cs)
+digit-record-is found carries [] none t = refl
+digit-record-is found carries (came p ∷ cs) none t =
+    joined-digits found cs (came-to-digits t found (p .octets) carries) (digit-record-is found carries cs none)
+digit-record-is found carries (other ptype octets ∷ cs) none t =
+    joined-digits found cs (other-comes-to-digits t found ptype octets (none .0))
+    (digit-record-is found carries cs (none .1))
+    ∙ sym (others-silent (layoutOf found ptype) octets (t .digits) (runOf found cs))
+
+pub trunk-digits-carried : TrunkDigitsCarried
+trunk-digits-carried found entries one two given =
+    let is1 = digit-record-is found (given .carries) one (given .others) freshTrunk in
+    let is2 = digit-record-is found (given .carries) two (given .others2) freshTrunk in
+    let p1 = same-payloads found one in
+    let p2 = same-payloads found two in
+    rw (is1, is2, ← p1, ← p2)
+    (digits-carried entries (runOf found one) (runOf found two)
+    (record {
+      some = rw p2 (given .some);
+      more = rw (p1, p2) (given .more);
+      near = rw p1 (given .near);
+      near2 = rw p2 (given .near2);
+    }))
+
+-- A telling, as the signalling receiver has it.
+pub record ToSignalling (x : Told) (marks : List (Mark (List ℕ))) (after : signalling-receiver.Receiver) : Type 0 where
+  pub appends : seizedMarks (x .seized) ≡ marks
+  pub leaves : x .trunk .signalling ≡ after
+
+-- a refused payload, whatever its number
+abbrev passedOver : signalling-receiver.Receiver → ℕ → signalling-received.Received
+passedOver r n = record { number = n; fills = 0; fill = 0; carried = 0; periods = replicate 30 0; receiver = r }
+
+passed-to-signalling : (t : Trunk) (n : ℕ) → ToSignalling (seizedTo t (passedOver (t .signalling) n)) [] (t .signalling)
+passed-to-signalling t n =
+    picked (λ (x : Told). ToSignalling x [] (t .signalling)) (eqb n sound) _ _ (λ e. record { appends = refl; leaves = refl }) (λ e. record { appends = refl; leaves = refl })
+
+from-signalling : (t : Trunk) (read : SignallingRead)
+    → ToSignalling (seizedTo t (seizing.receivedRead (t .signalling) read)) (signalling.marksOf (seizing.receivedRead (t .signalling) read)) (seizing.receivedRead (t .signalling) read .receiver)
+unfolding seizing.receivedRead seizing.replayed
+from-signalling t read =
+    picked (λ (got : signalling-received.Received). ToSignalling (seizedTo t got) (signalling.marksOf got) (got .receiver)) (eqb (read .number) sound)
+    (seizing.replayed (seizing.stepFrom (t .signalling) (read .signalling .sequence)) (t .signalling) (read .signalling))
+    (passedOver (t .signalling) (read .number))
+    (λ e. record { appends = refl; leaves = refl })
+    (λ e. passed-to-signalling t (read .number))
+
+other-to-signalling : (l : Layout) (t : Trunk) (p : List ℕ) → ((s : Signalling) → readAs l p ≡ reads (seized s) → ⊥) → ToSignalling (takenAs l t p) [] (t .signalling)
+unfolding seizing.receivedRead
+other-to-signalling (OfVoice r) t p none = go (voiceRead r p)
+  where
+    go : (read : VoiceRead) → ToSignalling (voiceTaken t read) [] (t .signalling)
+    go (Voice sequence coding front) = record { appends = refl; leaves = refl }
+    go (BadVoice n) = record { appends = refl; leaves = refl }
+other-to-signalling OfDigits t p none =
+    picked (λ (x : Told). ToSignalling x [] (t .signalling)) (eqb (dialling.received (t .digits) p .number) sound) _ _ (λ e. record { appends = refl; leaves = refl })
+    (λ e. record { appends = refl; leaves = refl })
+other-to-signalling OfSignalling t p none =
+    picked (λ (got : signalling-received.Received). ToSignalling (seizedTo t got) [] (t .signalling)) (eqb (signallingRead p .number) sound) _ _
+    (λ e. absurd (none (signallingRead p .signalling) (ap (λ (b : Bool). cond b (reads (seized (signallingRead p .signalling))) (refused (signallingRead p .number))) e)))
+    (λ e. passed-to-signalling t (signallingRead p .number))
+other-to-signalling OfFax t p none = go (faxRead p)
+  where
+    go : (read : FaxRead) → ToSignalling (faxTaken t read) [] (t .signalling)
+    go (Fax sequence stamp command front) = record { appends = refl; leaves = refl }
+    go (BadFax n) = record { appends = refl; leaves = refl }
+other-to-signalling (OfSid syntax) t p none = go (sidRead syntax p)
+  where
+    go : (read : SidRead) → ToSignalling (sidTaken t read) [] (t .signalling)
+    go (Silence sid) = record { appends = refl; leaves = refl }
+    go (BadSid n) = record { appends = refl; leaves = refl }
+other-to-signalling OfData t p none = go (dataRead p)
+  where
+    go : (read : DataRead) → ToSignalling (dataTaken t read) [] (t .signalling)
+    go (Fragment begins ends sequence) = record { appends = refl; leaves = refl }
+    go (BadData n) = record { appends = refl; leaves = refl }
+other-to-signalling (NoLayout n) t p none = record { appends = refl; leaves = refl }
+
+joined-signalling : {x : Told} {ms : List (Mark (List ℕ))} {r : signalling-receiver.Receiver} (found : Found) (cs : List Coming) → ToSignalling x ms r
+    → ((t : Trunk) → signallingRecord found t cs ≡ signalling.marks (t .signalling) (payloadsOf cs))
+    → seizedMarks (x .seized) ++ signallingRecord found (x .trunk) cs ≡ ms ++ signalling.marks r (payloadsOf cs)
+joined-signalling {x} {ms} {r} found cs to rest =
+    ap (λ (l : List (Mark (List ℕ))). seizedMarks (x .seized) ++ l) (rest (x .trunk))
+    ∙ ap (λ (q : signalling-receiver.Receiver). seizedMarks (x .seized) ++ signalling.marks q (payloadsOf cs)) (to .leaves)
+    ∙ ap (λ (l : List (Mark (List ℕ))). l ++ signalling.marks r (payloadsOf cs)) (to .appends)
+
+came-to-signalling : (t : Trunk) (found : Found) (p : List ℕ) → layoutOf found 2 ≡ OfSignalling
+    → ToSignalling (taken t found 2 p) (signalling.marksOf (seizing.received (t .signalling) p)) (seizing.received (t .signalling) p .receiver)
+came-to-signalling t found p carries = rw (as-layout t found 2 p carries) (from-signalling t (signallingRead p))
+
+other-comes-to-signalling : (t : Trunk) (found : Found) (ptype : ℕ) (p : List ℕ) → ((s : Signalling) → payloadRead found ptype p ≡ reads (seized s) → ⊥)
+    → ToSignalling (taken t found ptype p) [] (t .signalling)
+other-comes-to-signalling t found ptype p none = rw (as-layout t found ptype p refl) (other-to-signalling (layoutOf found ptype) t p none)
+
+signalling-record-is : (found : Found) → layoutOf found 2 ≡ OfSignalling → (cs : List Coming) → NoSignalling found cs → (t : Trunk) → signallingRecord found t cs ≡ signalling.marks (t .signalling) (payloadsOf cs)
+signalling-record-is found carries [] none t = refl
+signalling-record-is found carries (came p ∷ cs) none t =
+    joined-signalling found cs (came-to-signalling t found (p .octets) carries)
+    (signalling-record-is found carries cs none)
+signalling-record-is found carries (other ptype octets ∷ cs) none t =
+    joined-signalling found cs (other-comes-to-signalling t found ptype octets (none .0))
+    (signalling-record-is found carries cs (none .1))
+
+pub trunk-signalling-carried : TrunkSignallingCarried
+trunk-signalling-carried found start entries one two given =
+    rw (signalling-record-is found (given .carries) one (given .others) freshTrunk, signalling-record-is found (given .carries) two (given .others2) freshTrunk)
+    (signalling-carried start entries (payloadsOf one) (payloadsOf two)
+    (record {
+      begins = given .begins;
+      ten = given .ten;
+      some = given .some;
+      some2 = given .some2;
+      more = given .more;
+      near = given .near;
+      near2 = given .near2;
+    }))

@@ -1,0 +1,114 @@
+-- Demand 3 of a trunk: the sender's payloads come to one sub-channel's trunk among others of that sub-channel, of other kinds
+-- (voice, silence, fax, ..) or refused, and its record is that of the theorem. Proved in proofs/Trunks.antt.
+--
+-- It holds of the code by the contracts: `taken` is what `trunk::take` answers, and `freshTrunk` what `trunk::fresh` returns.
+use Prim.Native.Nat.{ℕ}
+use mathlib.Core.Path.{_≡_}
+use mathlib.Core.List.{List, [], _∷_, _++_, map}
+use lib.ListN.{take, replicate}
+use Rattle.refusal.specs.Numbers.{sound}
+use Rattle.record.specs.declared.table.Found.{Found}
+use Rattle.digits.specs.declared.layout.Window.{Window}
+use Rattle.digits.specs.declared.layout.Digits.{Digits}
+use Rattle.signalling.specs.declared.layout.Signalling.{Signalling}
+use Rattle.dialling.specs.declared.sender.Entry as dialling-entry
+use Rattle.dialling.specs.Sender.{freshSender}
+use Rattle.dialling.specs.Receiver as dialling
+use Rattle.seizing.specs.declared.sender.Entry as seizing-entry
+use Rattle.seizing.specs.Sender.{started}
+use Rattle.seizing.specs.Receiver as seizing
+use Rattle.payload.specs.declared.layout.Layout.the-variants.{OfDigits, OfSignalling}
+use Rattle.payload.specs.Layout.{layoutOf}
+use Rattle.payload.specs.Content.{dialled, seized, reads, payloadRead}
+use Rattle.trunk.specs.declared.Trunk.{Trunk}
+use Rattle.trunk.specs.declared.Dialled.{Dialled}
+use Rattle.trunk.specs.declared.Seized.{Seized}
+use Rattle.trunk.specs.declared.Told.{Told}
+use Rattle.trunk.specs.Trunk.{freshTrunk, taken}
+use Rattle.replay.specs.Periods.{Mark, filled, carried, Near, Among, Sublist}
+use Rattle.replay.specs.Claims.{BothReplay}
+use Rattle.carried.specs.Emissions.{Emission}
+use Rattle.carried.specs.Digits as digits
+use Rattle.carried.specs.Signalling as signalling
+
+-- What comes to a trunk: a payload of the sender, or any other payload, by its type and octets.
+pub data Coming : Type 0 where
+  came : Emission → Coming
+  other : ℕ → List ℕ → Coming
+
+abbrev pub payloadsOf : List Coming → List Emission
+payloadsOf [] = []
+payloadsOf (came p ∷ cs) = p ∷ payloadsOf cs
+payloadsOf (other ptype octets ∷ cs) = payloadsOf cs
+
+abbrev pub arrivals : List Coming → List ℕ
+arrivals cs = map (λ (p : Emission). p .number) (payloadsOf cs)
+
+-- what the trunk tells of it; the sender's payloads have the type `kind`
+abbrev pub toldOf : ℕ → Found → Trunk → Coming → Told
+toldOf kind found t (came p) = taken t found kind (p .octets)
+toldOf kind found t (other ptype octets) = taken t found ptype octets
+
+-- The trunk's records: what its receivers append, one after the other. Digits have type 1, signalling type 2.
+abbrev pub dialledMarks : Dialled → List (Mark Window)
+dialledMarks a = replicate (a .fills) (filled (a .fill)) ++ map carried (take (a .carried) (a .periods))
+
+abbrev pub digitRecord : Found → Trunk → List Coming → List (Mark Window)
+digitRecord found t [] = []
+digitRecord found t (c ∷ cs) = dialledMarks (toldOf 1 found t c .dialled) ++ digitRecord found (toldOf 1 found t c .trunk) cs
+
+abbrev pub seizedMarks : Seized → List (Mark (List ℕ))
+seizedMarks a =
+    replicate (a .fills) (filled (replicate 10 (a .fill))) ++ map carried (take (a .carried) (signalling.tens (a .periods)))
+
+abbrev pub signallingRecord : Found → Trunk → List Coming → List (Mark (List ℕ))
+signallingRecord found t [] = []
+signallingRecord found t (c ∷ cs) = seizedMarks (toldOf 2 found t c .seized) ++ signallingRecord found (toldOf 2 found t c .trunk) cs
+
+-- the others bring no digits, no signalling: they read as another content, or are refused
+abbrev pub NoDigits : Found → List Coming → Type 0
+NoDigits found [] = Unit
+NoDigits found (came p ∷ cs) = NoDigits found cs
+NoDigits found (other ptype octets ∷ cs) =
+    ((d : Digits) → payloadRead found ptype octets ≡ reads (dialled d) → ⊥) × NoDigits found cs
+
+abbrev pub NoSignalling : Found → List Coming → Type 0
+NoSignalling found [] = Unit
+NoSignalling found (came p ∷ cs) = NoSignalling found cs
+NoSignalling found (other ptype octets ∷ cs) =
+    ((s : Signalling) → payloadRead found ptype octets ≡ reads (seized s) → ⊥) × NoSignalling found cs
+
+-- What is given: a sub-channel that carries digits, and demand 3's words (Digits.antt).
+pub record DigitsGiven (found : Found) (entries : List dialling-entry.Entry) (first second : List Coming) : Type 0 where
+  pub carries : layoutOf found 1 ≡ OfDigits
+  pub some : Sublist (payloadsOf second) (digits.emissions freshSender 0 entries)
+  pub more : Sublist (payloadsOf first) (payloadsOf second)
+  pub near : Near dialling.farthest (arrivals first)
+  pub near2 : Near dialling.farthest (arrivals second)
+  pub others : NoDigits found first
+  pub others2 : NoDigits found second
+
+abbrev pub TrunkDigitsCarried : Type 0
+TrunkDigitsCarried =
+    (found : Found) (entries : List dialling-entry.Entry) (first second : List Coming)
+    → DigitsGiven found entries first second
+    → BothReplay (digits.periodOf entries) (arrivals first) (digitRecord found freshTrunk first) (arrivals second) (digitRecord found freshTrunk second)
+
+-- The same of signalling (Signalling.antt).
+pub record SignallingGiven (found : Found) (start : ℕ) (entries : List seizing-entry.Entry) (first second : List Coming) : Type 0 where
+  pub carries : layoutOf found 2 ≡ OfSignalling
+  pub begins : started start .number ≡ sound
+  pub ten : signalling.TenEach entries
+  pub some : Sublist (payloadsOf first) (signalling.emissions (started start .sender) 0 entries)
+  pub some2 : Sublist (payloadsOf second) (signalling.emissions (started start .sender) 0 entries)
+  pub more : Among (arrivals first) (arrivals second)
+  pub near : Near seizing.farthest (arrivals first)
+  pub near2 : Near seizing.farthest (arrivals second)
+  pub others : NoSignalling found first
+  pub others2 : NoSignalling found second
+
+abbrev pub TrunkSignallingCarried : Type 0
+TrunkSignallingCarried =
+    (found : Found) (start : ℕ) (entries : List seizing-entry.Entry) (first second : List Coming)
+    → SignallingGiven found start entries first second
+    → BothReplay (signalling.periodOf start entries) (arrivals first) (signallingRecord found freshTrunk first) (arrivals second) (signallingRecord found freshTrunk second)

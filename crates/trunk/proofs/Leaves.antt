@@ -1,0 +1,164 @@
+-- What a payload leaves alone, and its number (specs/Claims.antt).
+use Prim.Native.Nat.{ℕ}
+use mathlib.Core.Path.{_≡_, refl, sym, ap, _∙_}
+use mathlib.Core.List.{List}
+use mathlib.Core.Bool.{Bool, true, false, cond}
+use borrow.Author.Tests.{eqb-true}
+use lib.Dec.{eqb}
+use Rattle.refusal.specs.Numbers.{sound}
+use Rattle.voice.specs.declared.voice.VoiceRead.{VoiceRead}
+use Rattle.voice.specs.declared.voice.VoiceRead.the-variants.{Voice, BadVoice}
+use Rattle.voice.specs.declared.sid.SidRead.{SidRead}
+use Rattle.voice.specs.declared.sid.SidRead.the-variants.{Silence, BadSid}
+use Rattle.voice.specs.Voice.{voiceRead}
+use Rattle.voice.specs.Sid.{sidRead}
+use Rattle.data.specs.declared.DataRead.{DataRead}
+use Rattle.data.specs.declared.DataRead.the-variants.{Fragment, BadData}
+use Rattle.data.specs.Data.{dataRead}
+use Rattle.fax.specs.declared.FaxRead.{FaxRead}
+use Rattle.fax.specs.declared.FaxRead.the-variants.{Fax, BadFax}
+use Rattle.fax.specs.Fax.{faxRead}
+use Rattle.digits.specs.declared.layout.DigitsRead.{DigitsRead}
+use Rattle.digits.specs.declared.layout.DigitsRead.the-variants.{Dialled, BadDigits}
+use Rattle.digits.specs.Layout.{digitsRead}
+use Rattle.signalling.specs.declared.layout.SignallingRead.{SignallingRead}
+use Rattle.signalling.specs.Layout.{signallingRead}
+use Rattle.dialling.specs.declared.receiver.Receiver as dialling-receiver
+use Rattle.dialling.specs.declared.receiver.Received as digits
+use Rattle.dialling.specs.Receiver as dialling
+use Rattle.seizing.specs.declared.receiver.Receiver as seizing-receiver
+use Rattle.seizing.specs.declared.receiver.Received as signalling
+use Rattle.seizing.specs.Receiver as seizing
+use Rattle.payload.specs.declared.layout.Layout.{Layout}
+use Rattle.payload.specs.declared.layout.Layout.the-variants.{OfVoice, OfDigits, OfSignalling, OfFax, OfSid, OfData, NoLayout}
+use Rattle.payload.specs.Layout.{layoutOf}
+use Rattle.payload.specs.Content.{Reading, readAs, numberOf, ofVoice, ofDigits, ofSignalling, ofFax, ofSid, ofData}
+use Rattle.trunk.specs.declared.Trunk.{Trunk}
+use Rattle.trunk.specs.declared.Told.{Told}
+use Rattle.trunk.specs.Trunk.{refusing, voiceTaken, dialledTo, seizedTo, faxTaken, sidTaken, dataTaken, takenAs, taken}
+use Rattle.trunk.proofs.Cases.{as-layout, picked}
+use Rattle.trunk.specs.Claims.{NumberIsReadings, RefusedStands, Leaves}
+
+-- the trunk after each kind of payload
+voice-signalling : (t : Trunk) (read : VoiceRead) → voiceTaken t read .trunk .signalling ≡ t .signalling
+voice-signalling t (Voice sequence coding front) = refl
+voice-signalling t (BadVoice number) = refl
+
+voice-sequence : (t : Trunk) (read : VoiceRead) → voiceTaken t read .trunk .digits .last ≡ t .digits .last
+voice-sequence t (Voice sequence coding front) = refl
+voice-sequence t (BadVoice number) = refl
+
+fax-leaves : (t : Trunk) (read : FaxRead) → faxTaken t read .trunk ≡ t
+fax-leaves t (Fax sequence stamp command front) = refl
+fax-leaves t (BadFax number) = refl
+
+silence-leaves : (t : Trunk) (read : SidRead) → sidTaken t read .trunk ≡ t
+silence-leaves t (Silence sid) = refl
+silence-leaves t (BadSid number) = refl
+
+data-leaves : (t : Trunk) (read : DataRead) → dataTaken t read .trunk ≡ t
+data-leaves t (Fragment begins ends sequence) = refl
+data-leaves t (BadData number) = refl
+
+pub leaves : Leaves
+leaves =
+    record {
+      digits = λ t found ptype p e.
+          ap (λ (x : Told). x .trunk .signalling) (as-layout t found ptype p e)
+          ∙ picked (λ (x : Told). x .trunk .signalling ≡ t .signalling) (eqb (dialling.received (t .digits) p .number) sound) _ _ (λ h. refl) (λ h. refl);
+      signalling = λ t found ptype p e.
+          ap (λ (x : Told). x .trunk .digits) (as-layout t found ptype p e)
+          ∙ picked (λ (x : Told). x .trunk .digits ≡ t .digits) (eqb (seizing.received (t .signalling) p .number) sound) _ _ (λ h. refl) (λ h. refl);
+      voice = λ t found ptype p r e. ap (λ (x : Told). x .trunk .signalling) (as-layout t found ptype p e) ∙ voice-signalling t (voiceRead r p);
+      voice-last = λ t found ptype p r e. ap (λ (x : Told). x .trunk .digits .last) (as-layout t found ptype p e) ∙ voice-sequence t (voiceRead r p);
+      silence = λ t found ptype p s e. ap (λ (x : Told). x .trunk) (as-layout t found ptype p e) ∙ silence-leaves t (sidRead s p);
+      fax = λ t found ptype p e. ap (λ (x : Told). x .trunk) (as-layout t found ptype p e) ∙ fax-leaves t (faxRead p);
+      fragments = λ t found ptype p e. ap (λ (x : Told). x .trunk) (as-layout t found ptype p e) ∙ data-leaves t (dataRead p);
+    }
+
+-- the number that is told of what a receiver answers is its number
+dialled-number : (t : Trunk) (got : digits.Received) → dialledTo t got .number ≡ got .number
+dialled-number t got =
+    picked (λ (x : Told). x .number ≡ got .number) (eqb (got .number) sound) _ _ (λ h. sym (eqb-true (got .number) sound h)) (λ h. refl)
+
+seized-number : (t : Trunk) (got : signalling.Received) → seizedTo t got .number ≡ got .number
+seized-number t got =
+    picked (λ (x : Told). x .number ≡ got .number) (eqb (got .number) sound) _ _ (λ h. sym (eqb-true (got .number) sound h)) (λ h. refl)
+
+digits-number : (r : dialling-receiver.Receiver) (read : DigitsRead) → dialling.receivedBy r read .number ≡ numberOf (ofDigits read)
+digits-number r (Dialled d) = refl
+digits-number r (BadDigits number) = refl
+
+received-number : (r : dialling-receiver.Receiver) (p : List ℕ) → dialling.received r p .number ≡ numberOf (ofDigits (digitsRead p))
+unfolding dialling.received
+received-number r p = digits-number r (digitsRead p)
+
+both-ways : (b : Bool) (x y : signalling.Received) (u v : Reading) → x .number ≡ numberOf u → y .number ≡ numberOf v → cond b x y .number ≡ numberOf (cond b u v)
+both-ways true x y u v p q = p
+both-ways false x y u v p q = q
+
+signalling-number : (r : seizing-receiver.Receiver) (read : SignallingRead) → seizing.receivedRead r read .number ≡ numberOf (ofSignalling read)
+unfolding seizing.receivedRead seizing.replayed
+signalling-number r read = both-ways (eqb (read .number) sound) _ _ _ _ refl refl
+
+number-as : (l : Layout) (t : Trunk) (p : List ℕ) → takenAs l t p .number ≡ numberOf (readAs l p)
+number-as (OfVoice r) t p = number (voiceRead r p)
+  where
+    number : (read : VoiceRead) → voiceTaken t read .number ≡ numberOf (ofVoice p read)
+    number (Voice sequence coding front) = refl
+    number (BadVoice n) = refl
+number-as OfDigits t p = dialled-number t (dialling.received (t .digits) p) ∙ received-number (t .digits) p
+number-as OfSignalling t p = seized-number t (seizing.received (t .signalling) p) ∙ signalling-number (t .signalling) (signallingRead p)
+number-as OfFax t p = number (faxRead p)
+  where
+    number : (read : FaxRead) → faxTaken t read .number ≡ numberOf (ofFax p read)
+    number (Fax sequence stamp command front) = refl
+    number (BadFax n) = refl
+number-as (OfSid syntax) t p = number (sidRead syntax p)
+  where
+    number : (read : SidRead) → sidTaken t read .number ≡ numberOf (ofSid read)
+    number (Silence sid) = refl
+    number (BadSid n) = refl
+number-as OfData t p = number (dataRead p)
+  where
+    number : (read : DataRead) → dataTaken t read .number ≡ numberOf (ofData p read)
+    number (Fragment begins ends sequence) = refl
+    number (BadData n) = refl
+number-as (NoLayout n) t p = refl
+
+pub number-is-readings : NumberIsReadings
+unfolding taken
+number-is-readings t found ptype p = number-as (layoutOf found ptype) t p
+
+-- a refusal, or a number that is none
+abbrev Stood : Trunk → Told → Type 0
+Stood t x = (x .number ≡ sound → ⊥) → x ≡ refusing t (x .number)
+
+stood-as : (l : Layout) (t : Trunk) (p : List ℕ) → Stood t (takenAs l t p)
+stood-as (OfVoice r) t p = stood (voiceRead r p)
+  where
+    stood : (read : VoiceRead) → Stood t (voiceTaken t read)
+    stood (Voice sequence coding front) h = absurd (h refl)
+    stood (BadVoice n) h = refl
+stood-as OfDigits t p = picked (Stood t) (eqb (dialling.received (t .digits) p .number) sound) _ _ (λ e h. absurd (h refl)) (λ e h. refl)
+stood-as OfSignalling t p = picked (Stood t) (eqb (seizing.received (t .signalling) p .number) sound) _ _ (λ e h. absurd (h refl)) (λ e h. refl)
+stood-as OfFax t p = stood (faxRead p)
+  where
+    stood : (read : FaxRead) → Stood t (faxTaken t read)
+    stood (Fax sequence stamp command front) h = absurd (h refl)
+    stood (BadFax n) h = refl
+stood-as (OfSid syntax) t p = stood (sidRead syntax p)
+  where
+    stood : (read : SidRead) → Stood t (sidTaken t read)
+    stood (Silence sid) h = absurd (h refl)
+    stood (BadSid n) h = refl
+stood-as OfData t p = stood (dataRead p)
+  where
+    stood : (read : DataRead) → Stood t (dataTaken t read)
+    stood (Fragment begins ends sequence) h = absurd (h refl)
+    stood (BadData n) h = refl
+stood-as (NoLayout n) t p = λ h. refl
+
+pub refused-stands : RefusedStands
+unfolding taken
+refused-stands t found ptype p h = stood-as (layoutOf found ptype) t p h

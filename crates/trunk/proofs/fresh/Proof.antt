@@ -1,0 +1,17 @@
+-- `trunk::fresh` meets its contract.
+use borrow.Author.Needs.{needs}
+use Rattle.trunk.proofs.fresh.Statement.{statement}
+use Rattle.trunk.proofs.fresh.Tie as tie
+use Rattle.seizing.proofs.receiver.fresh.Reads as receiver-fresh-reads′
+
+fresh-requires : tie.Need-fresh-requires
+fresh-requires c κs = search needs
+
+fresh-requires-2 : tie.Need-fresh-requires-2
+fresh-requires-2 c κs = search needs
+
+returns : tie.Need-returns
+returns c = cc
+
+pub fresh-spec : {M : Type 1} → statement M
+fresh-spec = tie.close (tie.spec fresh-requires fresh-requires-2 returns)

@@ -1,0 +1,16 @@
+-- `trunk::refuse` meets its contract.
+use borrow.Author.Needs.{needs}
+use Rattle.trunk.proofs.refuse.Statement.{statement}
+use Rattle.trunk.proofs.refuse.Tie as tie
+
+nothing-dialled-requires : tie.Need-nothing-dialled-requires
+nothing-dialled-requires c κs = search needs
+
+nothing-seized-requires : tie.Need-nothing-seized-requires
+nothing-seized-requires c κs = search needs
+
+returns : tie.Need-returns
+returns c = cc
+
+pub refuse-spec : {M : Type 1} → statement M
+refuse-spec = tie.close (tie.spec nothing-dialled-requires nothing-seized-requires returns)

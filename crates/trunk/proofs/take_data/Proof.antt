@@ -1,0 +1,41 @@
+-- `trunk::take_data` meets its contract.
+use mathlib.Core.Path.{sym, ap, _∙_}
+use Rattle.trunk.specs.Trunk.{dataTaken}
+use borrow.Author.Needs.{needs}
+use Rattle.trunk.proofs.take_data.Statement.{statement}
+use Rattle.trunk.proofs.take_data.Tie as tie
+
+read-data-requires : tie.Need-read-data-requires
+read-data-requires c κs = search needs
+
+enum-known-number : tie.Need-enum-known-number
+enum-known-number c = search needs
+
+refuse-requires : tie.Need-refuse-requires
+refuse-requires c κs = search needs
+
+enum-told : tie.Need-enum-told
+enum-told c = search needs
+
+pass-requires : tie.Need-pass-requires
+pass-requires c κs = search needs
+
+returns : tie.Need-returns
+returns c =
+    c .refuse .ensures ∙ ap (dataTaken (c .before .before .before .before .before .before .args .trunk)) (sym (c .before .before .number .given .1) ∙ c .before .before .before .before .read-data .ensures)
+
+returns-2 : tie.Need-returns-2
+returns-2 c =
+    c .pass .ensures ∙ ap (dataTaken (c .before .before .before .before .before .args .trunk)) (sym (c .before .enum-told .given .1) ∙ c .before .before .before .read-data .ensures)
+
+pub take-data-spec : {M : Type 1} → statement M
+take-data-spec =
+    tie.close
+    (tie.spec
+    read-data-requires
+    enum-known-number
+    refuse-requires
+    enum-told
+    pass-requires
+    returns
+    returns-2)

@@ -1,0 +1,120 @@
+-- One sub-channel at the far end (document 01, "Payload types" and "Receivers"): what a payload of a type brings about, by what is
+-- provisioned on the sub-channel. The layout names the receiver; a refusal hands the trunk back unchanged.
+use Prim.Native.Nat.{ℕ}
+use mathlib.Core.List.{List, [], _∷_}
+use mathlib.Core.Bool.{cond}
+use lib.Dec.{eqb}
+use lib.ListN.{replicate}
+use Rattle.refusal.specs.Numbers.{sound}
+use Rattle.record.specs.declared.table.Found.{Found}
+use Rattle.voice.specs.declared.voice.VoiceRead.{VoiceRead}
+use Rattle.voice.specs.declared.voice.VoiceRead.the-variants.{Voice, BadVoice}
+use Rattle.voice.specs.declared.sid.SidRead.{SidRead}
+use Rattle.voice.specs.declared.sid.SidRead.the-variants.{Silence, BadSid}
+use Rattle.voice.specs.Voice.{voiceRead}
+use Rattle.voice.specs.Sid.{sidRead}
+use Rattle.data.specs.declared.DataRead.{DataRead}
+use Rattle.data.specs.declared.DataRead.the-variants.{Fragment, BadData}
+use Rattle.data.specs.Data.{dataRead}
+use Rattle.fax.specs.declared.FaxRead.{FaxRead}
+use Rattle.fax.specs.declared.FaxRead.the-variants.{Fax, BadFax}
+use Rattle.fax.specs.Fax.{faxRead}
+use Rattle.digits.specs.Layout.{offWindow}
+use Rattle.dialling.specs.declared.receiver.Received as digits
+use Rattle.dialling.specs.Receiver as dialling
+use Rattle.seizing.specs.declared.receiver.Received as signalling
+use Rattle.seizing.specs.Receiver as seizing
+use Rattle.payload.specs.declared.layout.Layout.{Layout}
+use Rattle.payload.specs.declared.layout.Layout.the-variants.{OfVoice, OfDigits, OfSignalling, OfFax, OfSid, OfData, NoLayout}
+use Rattle.payload.specs.Layout.{layoutOf}
+use Rattle.trunk.specs.declared.Trunk.{Trunk}
+use Rattle.trunk.specs.declared.Heard.{Heard}
+use Rattle.trunk.specs.declared.Heard.the-variants.{HeardNothing, HeardVoice, HeardSilence, HeardDigits, HeardSignalling, HeardData, HeardFax}
+use Rattle.trunk.specs.declared.Dialled.{Dialled}
+use Rattle.trunk.specs.declared.Seized.{Seized}
+use Rattle.trunk.specs.declared.Told.{Told}
+
+-- both receivers as they are before anything has come
+abbrev pub freshTrunk : Trunk
+freshTrunk = record { digits = dialling.freshReceiver; signalling = seizing.freshReceiver }
+
+-- what a receiver appends to which nothing has come: "unused places off or 0"
+abbrev pub nothingDialled : Dialled
+nothingDialled = record { fills = 0; fill = offWindow; carried = 0; periods = offWindow ∷ offWindow ∷ offWindow ∷ [] }
+
+abbrev pub nothingSeized : Seized
+nothingSeized = record { fills = 0; fill = 0; carried = 0; periods = replicate 30 0 }
+
+-- "A refusal returns its number only .., and all .. state stand as at entry."
+abbrev pub refusing : Trunk → ℕ → Told
+refusing t number =
+    record { number = number; heard = HeardNothing; dialled = nothingDialled; seized = nothingSeized; trunk = t }
+
+-- a payload that is taken and appends nothing
+abbrev pub passing : Trunk → Heard → Told
+passing t heard = record { number = sound; heard = heard; dialled = nothingDialled; seized = nothingSeized; trunk = t }
+
+-- "An accepted type 0 voice payload ends a sounding tone".
+abbrev pub voiceTaken : Trunk → VoiceRead → Told
+voiceTaken t (Voice sequence coding front) =
+    passing (record { digits = dialling.voiceHeard (t .digits); signalling = t .signalling }) HeardVoice
+voiceTaken t (BadVoice number) = refusing t number
+
+-- a digits payload, by what the digit receiver answers
+abbrev pub dialledTo : Trunk → digits.Received → Told
+dialledTo t got =
+    cond (eqb (got .number) sound)
+    (record {
+      number = sound;
+      heard = HeardDigits;
+      dialled = record { fills = got .fills; fill = got .fill; carried = got .carried; periods = got .periods };
+      seized = nothingSeized;
+      trunk = record { digits = got .receiver; signalling = t .signalling };
+    })
+    (refusing t (got .number))
+
+abbrev pub digitsTaken : Trunk → List ℕ → Told
+digitsTaken t payload = dialledTo t (dialling.received (t .digits) payload)
+
+-- a signalling payload, by what the signalling receiver answers
+abbrev pub seizedTo : Trunk → signalling.Received → Told
+seizedTo t got =
+    cond (eqb (got .number) sound)
+    (record {
+      number = sound;
+      heard = HeardSignalling;
+      dialled = nothingDialled;
+      seized = record { fills = got .fills; fill = got .fill; carried = got .carried; periods = got .periods };
+      trunk = record { digits = t .digits; signalling = got .receiver };
+    })
+    (refusing t (got .number))
+
+abbrev pub signallingTaken : Trunk → List ℕ → Told
+signallingTaken t payload = seizedTo t (seizing.received (t .signalling) payload)
+
+-- fax, silence and data
+abbrev pub faxTaken : Trunk → FaxRead → Told
+faxTaken t (Fax sequence stamp command front) = passing t HeardFax
+faxTaken t (BadFax number) = refusing t number
+
+abbrev pub sidTaken : Trunk → SidRead → Told
+sidTaken t (Silence sid) = passing t HeardSilence
+sidTaken t (BadSid number) = refusing t number
+
+abbrev pub dataTaken : Trunk → DataRead → Told
+dataTaken t (Fragment begins ends sequence) = passing t HeardData
+dataTaken t (BadData number) = refusing t number
+
+-- a payload of a layout
+abbrev pub takenAs : Layout → Trunk → List ℕ → Told
+takenAs (OfVoice r) t payload = voiceTaken t (voiceRead r payload)
+takenAs OfDigits t payload = digitsTaken t payload
+takenAs OfSignalling t payload = signallingTaken t payload
+takenAs OfFax t payload = faxTaken t (faxRead payload)
+takenAs (OfSid syntax) t payload = sidTaken t (sidRead syntax payload)
+takenAs OfData t payload = dataTaken t (dataRead payload)
+takenAs (NoLayout number) t payload = refusing t number
+
+-- A payload of a type on a sub-channel where this is provisioned.
+unfoldable pub taken : Trunk → Found → ℕ → List ℕ → Told
+taken t found ptype payload = takenAs (layoutOf found ptype) t payload
