@@ -5,7 +5,6 @@ use mathlib.Core.Path.{_≡_, refl, sym, ap, _∙_}
 use mathlib.Core.List.{List, [], _∷_, _++_}
 use mathlib.Core.Bool.{Bool, cond}
 use lib.Dec.{eqb}
-use lib.ListN.{replicate}
 use Rattle.refusal.specs.Numbers.{sound}
 use Rattle.record.specs.declared.table.Found.{Found}
 use Rattle.voice.specs.declared.voice.VoiceRead.{VoiceRead}
@@ -200,25 +199,21 @@ pub record ToSignalling (x : Told) (marks : List (Mark (List ℕ))) (after : sig
   pub leaves : x .trunk .signalling ≡ after
 
 -- a refused payload, whatever its number
-abbrev passedOver : signalling-receiver.Receiver → ℕ → signalling-received.Received
-passedOver r n = record { number = n; fills = 0; fill = 0; carried = 0; periods = replicate 30 0; receiver = r }
-
-passed-to-signalling : (t : Trunk) (n : ℕ) → ToSignalling (seizedTo t (passedOver (t .signalling) n)) [] (t .signalling)
+passed-to-signalling : (t : Trunk) (n : ℕ) → ToSignalling (seizedTo t (seizing.passedOver (t .signalling) n)) [] (t .signalling)
 passed-to-signalling t n =
     picked (λ (x : Told). ToSignalling x [] (t .signalling)) (eqb n sound) _ _ (λ e. record { appends = refl; leaves = refl }) (λ e. record { appends = refl; leaves = refl })
 
 from-signalling : (t : Trunk) (read : SignallingRead)
-    → ToSignalling (seizedTo t (seizing.receivedRead (t .signalling) read)) (signalling.marksOf (seizing.receivedRead (t .signalling) read)) (seizing.receivedRead (t .signalling) read .receiver)
-unfolding seizing.receivedRead seizing.replayed
+    → ToSignalling (seizedTo t (seizing.receivedBy (t .signalling) read)) (signalling.marksOf (seizing.receivedBy (t .signalling) read)) (seizing.receivedBy (t .signalling) read .receiver)
 from-signalling t read =
     picked (λ (got : signalling-received.Received). ToSignalling (seizedTo t got) (signalling.marksOf got) (got .receiver)) (eqb (read .number) sound)
-    (seizing.replayed (seizing.stepFrom (t .signalling) (read .signalling .sequence)) (t .signalling) (read .signalling))
-    (passedOver (t .signalling) (read .number))
+    (seizing.appended (t .signalling) (read .signalling) (seizing.stepFrom (t .signalling) (read .signalling .sequence)))
+    (seizing.passedOver (t .signalling) (read .number))
     (λ e. record { appends = refl; leaves = refl })
     (λ e. passed-to-signalling t (read .number))
 
 other-to-signalling : (l : Layout) (t : Trunk) (p : List ℕ) → ((s : Signalling) → readAs l p ≡ reads (seized s) → ⊥) → ToSignalling (takenAs l t p) [] (t .signalling)
-unfolding seizing.receivedRead
+unfolding seizing.received
 other-to-signalling (OfVoice r) t p none = go (voiceRead r p)
   where
     go : (read : VoiceRead) → ToSignalling (voiceTaken t read) [] (t .signalling)
@@ -258,6 +253,7 @@ joined-signalling {x} {ms} {r} found cs to rest =
 
 came-to-signalling : (t : Trunk) (found : Found) (p : List ℕ) → layoutOf found 2 ≡ OfSignalling
     → ToSignalling (taken t found 2 p) (signalling.marksOf (seizing.received (t .signalling) p)) (seizing.received (t .signalling) p .receiver)
+unfolding seizing.received
 came-to-signalling t found p carries = rw (as-layout t found 2 p carries) (from-signalling t (signallingRead p))
 
 other-comes-to-signalling : (t : Trunk) (found : Found) (ptype : ℕ) (p : List ℕ) → ((s : Signalling) → payloadRead found ptype p ≡ reads (seized s) → ⊥)

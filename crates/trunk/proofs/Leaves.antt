@@ -21,7 +21,6 @@ use Rattle.fax.specs.Fax.{faxRead}
 use Rattle.digits.specs.declared.layout.DigitsRead.{DigitsRead}
 use Rattle.digits.specs.declared.layout.DigitsRead.the-variants.{Dialled, BadDigits}
 use Rattle.digits.specs.Layout.{digitsRead}
-use Rattle.signalling.specs.declared.layout.SignallingRead.{SignallingRead}
 use Rattle.signalling.specs.Layout.{signallingRead}
 use Rattle.dialling.specs.declared.receiver.Receiver as dialling-receiver
 use Rattle.dialling.specs.declared.receiver.Received as digits
@@ -97,9 +96,9 @@ both-ways : (b : Bool) (x y : signalling.Received) (u v : Reading) → x .number
 both-ways true x y u v p q = p
 both-ways false x y u v p q = q
 
-signalling-number : (r : seizing-receiver.Receiver) (read : SignallingRead) → seizing.receivedRead r read .number ≡ numberOf (ofSignalling read)
-unfolding seizing.receivedRead seizing.replayed
-signalling-number r read = both-ways (eqb (read .number) sound) _ _ _ _ refl refl
+signalling-number : (r : seizing-receiver.Receiver) (p : List ℕ) → seizing.received r p .number ≡ numberOf (ofSignalling (signallingRead p))
+unfolding seizing.received
+signalling-number r p = both-ways (eqb (signallingRead p .number) sound) _ _ _ _ refl refl
 
 number-as : (l : Layout) (t : Trunk) (p : List ℕ) → takenAs l t p .number ≡ numberOf (readAs l p)
 number-as (OfVoice r) t p = number (voiceRead r p)
@@ -108,7 +107,7 @@ number-as (OfVoice r) t p = number (voiceRead r p)
     number (Voice sequence coding front) = refl
     number (BadVoice n) = refl
 number-as OfDigits t p = dialled-number t (dialling.received (t .digits) p) ∙ received-number (t .digits) p
-number-as OfSignalling t p = seized-number t (seizing.received (t .signalling) p) ∙ signalling-number (t .signalling) (signallingRead p)
+number-as OfSignalling t p = seized-number t (seizing.received (t .signalling) p) ∙ signalling-number (t .signalling) p
 number-as OfFax t p = number (faxRead p)
   where
     number : (read : FaxRead) → faxTaken t read .number ≡ numberOf (ofFax p read)
