@@ -1,5 +1,4 @@
 pub mod LayoutCases
 pub mod CheckCases
 pub mod ContentBack
-pub mod ToneCases
 pub mod ContentAgain

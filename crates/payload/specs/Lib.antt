@@ -1,4 +1,3 @@
 pub mod Layout
 pub mod Content
 pub mod Claims
-pub mod Tone

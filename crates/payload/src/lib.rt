@@ -1,4 +1,3 @@
 // Payloads by their sub-channel's record and their type (document 01, "Payload types").
 pub mod check;
 pub mod layout;
-pub mod tone;
