@@ -17,12 +17,16 @@ use Rattle.provisioning.specs.declared.line.Step.{Step}
 use Rattle.provisioning.specs.declared.line.Step.the-variants.{Goes, Stops}
 use Rattle.provisioning.specs.Value.{numberOf, wordOf, valueLine, malformed, valueIn, sizeIn}
 
+-- a line of this kind is due, and these are the CID and the record under way
+abbrev pub due : Kind → ℕ → Record → State
+due kind cid made = record { kind = kind; cid = cid; made = made }
+
 -- What is due at the start: a block, on a CID above 0. The record under way is acelp with m 1 and seq 0.
 abbrev pub start : State
-start = record { kind = OfCid; cid = 0; made = record { syntax = Acelp; m = 1; seq = false } }
+start = due OfCid 0 (record { syntax = Acelp; m = 1; seq = false })
 
--- A kind of line: its key; whether it begins a block; how its value is read; whether a value is listed, for the record under
--- way; and what is due after it: the next kind, and the record with what the value tells.
+-- A kind of line: its key; whether it begins a block; how its value is read; which values are listed, for the record under
+-- way; and what is due after it: the next kind of line, and what the value tells in its place.
 pub record Row : Type 0 where
   pub key : List ℕ
   pub begins : Bool
@@ -30,8 +34,8 @@ pub record Row : Type 0 where
   pub listed : Record → ℕ → Bool
   pub told : State → ℕ → State
 
--- "Blocks of four lines, each ended by LF: `cid=`, `syntax=`, `m=`, `seq=`." "CIDs 4 to 255"; a syntax word, by its place among the
--- seven; m and seq as listed for the syntax.
+-- "Blocks of four lines, each ended by LF: `cid=`, `syntax=`, `m=`, `seq=`." "CIDs 4 to 255": their rising is a test of its own,
+-- below. A syntax word is told by its place among the seven.
 abbrev pub row : Kind → Row
 row OfCid =
     record {
@@ -39,7 +43,7 @@ row OfCid =
       begins = true;
       read = numberOf;
       listed = λ made cid. leb 4 cid && leb cid 255;
-      told = λ st cid. record { kind = OfSyntax; cid = cid; made = st .made };
+      told = λ st cid. due OfSyntax cid (st .made);
     }
 row OfSyntax =
     record {
@@ -47,13 +51,7 @@ row OfSyntax =
       begins = false;
       read = wordOf;
       listed = λ made place. leb 1 place && leb place 7;
-      told =
-          λ st place.
-          record {
-            kind = OfM;
-            cid = st .cid;
-            made = record { syntax = syntaxAt place; m = st .made .m; seq = st .made .seq };
-          };
+      told = λ st place. due OfM (st .cid) (record { syntax = syntaxAt place; m = st .made .m; seq = st .made .seq });
     }
 row OfM =
     record {
@@ -61,13 +59,7 @@ row OfM =
       begins = false;
       read = numberOf;
       listed = λ made m. mListed (made .syntax) m;
-      told =
-          λ st m.
-          record {
-            kind = OfSeq;
-            cid = st .cid;
-            made = record { syntax = st .made .syntax; m = m; seq = st .made .seq };
-          };
+      told = λ st m. due OfSeq (st .cid) (record { syntax = st .made .syntax; m = m; seq = st .made .seq });
     }
 row OfSeq =
     record {
@@ -75,13 +67,7 @@ row OfSeq =
       begins = false;
       read = numberOf;
       listed = λ made seq. leb seq 1 && seqListed (made .syntax) (eqb seq 1);
-      told =
-          λ st seq.
-          record {
-            kind = OfCid;
-            cid = st .cid;
-            made = record { syntax = st .made .syntax; m = st .made .m; seq = eqb seq 1 };
-          };
+      told = λ st seq. due OfCid (st .cid) (record { syntax = st .made .syntax; m = st .made .m; seq = eqb seq 1 });
     }
 
 -- A line with this value, where `st` is due: "tried in this order: 31 wrong key, malformed number or missing LF; 32 value not

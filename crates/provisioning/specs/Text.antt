@@ -38,7 +38,7 @@ before e (taken es) = taken (e ∷ es)
 abbrev pub atEnd : Kind → ℕ → Reading
 atEnd kind done = cond (row kind .begins) (taken []) (refused lineMalformed (done + 1))
 
--- after a line: where a block is due next, the line was the last of a block
+-- a line, after which `st` is due, before what follows it: a line after which a block is due ends one
 abbrev pub after : State → Reading → Reading
 after st rest = cond (row (st .kind) .begins) (before (record { cid = st .cid; made = st .made }) rest) rest
 

@@ -116,7 +116,7 @@ fn between(low: u16, value: u16, high: u16) -> bool
 }
 
 // Whether a syntax may have a value as its seq.
-fn seq_listed(syntax: Syntax, value: u16) -> bool
+fn bit_listed(syntax: Syntax, value: u16) -> bool
     ensures { λ r. ⌜ r ≡ (leb value 1 && seqListed syntax (eqb value 1)) ⌝ }
 {
     if value <= 1 {
@@ -134,7 +134,7 @@ fn listed(kind: Kind, made: Record, value: u16) -> bool
         Kind::OfCid => between(4, value, 255),
         Kind::OfSyntax => between(1, value, 7),
         Kind::OfM => record::syntax::m_listed(syntax, value),
-        Kind::OfSeq => seq_listed(syntax, value),
+        Kind::OfSeq => bit_listed(syntax, value),
     }
 }
 

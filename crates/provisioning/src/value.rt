@@ -6,7 +6,7 @@ ghost use Rattle.record.specs.Record.{place};
 
 // What stands behind a key.
 pub enum Value {
-    // A number, or the place of a syntax word in document 01's list and 0 for another word; `size` counts the octets with the LF.
+    // A number; or the place of a syntax word in document 01's list, 0 for any other word. `size` counts the octets with the LF.
     Whole { value: u16, size: usize },
     // A malformed number, or no LF comes.
     Malformed,
@@ -107,6 +107,7 @@ pub(crate) fn word_of(s: &[u8]) -> Value
     if octets::text::starts(s, b"fax\n") {
         return known(Syntax::Fax, 4);
     }
+    // Any other word.
     if octets::text::has_lf(s) {
         return Value::Whole { value: 0, size: 0 };
     }

@@ -68,7 +68,7 @@ syntaxAt at =
     (cond (eqb at 5) G7231
     (cond (eqb at 6) Data Fax)))))
 
--- A record as a number of the table: the syntax above bit 5, m in bits 5 to 2, seq in bit 1.
+-- A record as a number of the table. That of a legal one has its syntax above bit 5, m in bits 5 to 2 and seq in bit 1.
 unfoldable pub packed : Record → ℕ
 packed r = place (r .syntax) * 32 + r .m * 2 + cond (r .seq) 1 0
 

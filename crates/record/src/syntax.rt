@@ -20,7 +20,7 @@ pub struct Record {
     pub seq: bool,
 }
 
-// The m and seq that a syntax may have, as a mask: bit 2 × m + seq + 1 is set where they are listed. Bits are counted from 1.
+// The m and seq that a syntax may have, as a mask: bit 2 × m + seq + 1, counted from 1, is set where they are listed.
 fn pairs(syntax: Syntax) -> u32
     ensures { λ r. ⌜ ((n : ℕ) → eqb (r / 2 ^ (n % 32) % 2) 1 ≡ legal (withPair syntax n)) ⌝ }
 {

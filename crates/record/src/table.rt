@@ -16,7 +16,7 @@ fn bit(set: bool) -> u16
     if set { 1 } else { 0 }
 }
 
-// A record as a number of the table: the syntax above bit 5, m in bits 5 to 2, seq in bit 1.
+// A record as a number of the table. That of a legal one has its syntax above bit 5, m in bits 5 to 2 and seq in bit 1.
 pub fn pack(given: Record) -> u16
     ensures { λ r. ⌜ r ≡ packed given ⌝ }
 {

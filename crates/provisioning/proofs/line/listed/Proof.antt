@@ -24,8 +24,8 @@ m-listed-requires c κs = search needs
 enum-told-4 : tie.Need-enum-told-4
 enum-told-4 c = search needs
 
-seq-listed-requires : tie.Need-seq-listed-requires
-seq-listed-requires c κs = search needs
+bit-listed-requires : tie.Need-bit-listed-requires
+bit-listed-requires c κs = search needs
 
 returns : tie.Need-returns
 returns c = rw (c .before .enum-told .given .1) (c .between .ensures)
@@ -37,7 +37,7 @@ returns-3 : tie.Need-returns-3
 returns-3 c = rw (c .before .enum-told3 .given .1) (c .m-listed .ensures)
 
 returns-4 : tie.Need-returns-4
-returns-4 c = rw (c .before .enum-told4 .given .1) (c .seq-listed .ensures)
+returns-4 c = rw (c .before .enum-told4 .given .1) (c .bit-listed .ensures)
 
 pub listed-spec : {M : Type 1} → statement M
 listed-spec =
@@ -50,7 +50,7 @@ listed-spec =
     enum-told-3
     m-listed-requires
     enum-told-4
-    seq-listed-requires
+    bit-listed-requires
     returns
     returns-2
     returns-3
