@@ -32,7 +32,7 @@ put-octets-requires c κs = search needs
 returns : tie.Need-returns
 returns c =
     let a = c .before .before .before .before .before .args in
-    back.not-written (a .room .now) (a .at) (digitsMade (a .digits)) _ (back.unfit-unmade _ _ (sym (c .before .before .before .fit-digits .ensures) ∙ c .before .number .given .1))
+    back.unfit-not-written (a .room .now) (a .at) (digitsMade (a .digits)) _ (sym (c .before .before .before .fit-digits .ensures) ∙ c .before .number .given .1)
 
 same-length : tie.Need-same-length
 same-length c = search needs
