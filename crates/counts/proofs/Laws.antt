@@ -4,7 +4,7 @@ use mathlib.Core.Path.{_≡_, sym, ap, _∙_}
 use mathlib.Core.Logic.{_↔_}
 use native.Mathlib.Nat.{mod-lt, mod-mod, mod-add-mod, add-mod-mod, mod-eq-of-lt, div-add-mod, add-mul-mod-self-left, add-zero, zero-add, zero-mod, add-comm}
 use native.Mathlib.Omega.{arith}
-use lib.Pow.{pow-pos}
+use lib.Pow.{pow-pos, mod-mod-pow}
 use Rattle.counts.specs.Round.{onward, step}
 use Rattle.counts.specs.Laws.{Laws}
 
@@ -21,7 +21,7 @@ module _ (k : ℕ) where
   arrives a b = add-mod-mod a (b + (2 ^ k - a % 2 ^ k)) (2 ^ k) ∙ round-again (2 ^ k) (pow-pos k) a b
 
   -- a number that goes from a to b is the step round the width, whatever way it was found
-  pub step-only : (n a b : ℕ) → (n + a) % 2 ^ k ≡ b % 2 ^ k → n % 2 ^ k ≡ step k a b
+  step-only : (n a b : ℕ) → (n + a) % 2 ^ k ≡ b % 2 ^ k → n % 2 ^ k ≡ step k a b
   step-only n a b e =
       let m : ℕ = 2 ^ k in
       let rest : ℕ = m - a % m in
@@ -31,6 +31,13 @@ module _ (k : ℕ) where
       ∙ sym (mod-add-mod (n + a) m rest)
       ∙ ap (λ (x : ℕ). (x + rest) % m) e
       ∙ mod-add-mod b m rest
+
+  -- a difference round 2 ^ 16, masked, is the step
+  pub step-masked : k < 16 → (n last new : ℕ) → (n + last) % 2 ^ 16 ≡ new → n % 2 ^ k ≡ step k last new
+  step-masked narrow n last new e =
+      let parts : 16 - k + k ≡ 16 = omega arith in
+      step-only n last new
+      (sym (mod-mod-pow (n + last) (16 - k) k) ∙ ap (λ (j : ℕ). (n + last) % 2 ^ j % 2 ^ k) parts ∙ ap (λ (m : ℕ). m % 2 ^ k) e)
 
   steps : (a d : ℕ) → d < 2 ^ k → step k (a % 2 ^ k) ((a + d) % 2 ^ k) ≡ d
   steps a d less =

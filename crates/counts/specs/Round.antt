@@ -1,14 +1,6 @@
 -- Round counts (document 01, "Receivers" and "The digit count, the signalling count, the voice count and the data count"),
 -- once over the width k in bits: 8 for digits, 7 for signalling, 4 for voice, 13 for data.
 use Prim.Native.Nat.{ℕ, _+_, _-_, _%_, _^_}
-use Rattle.counts.specs.declared.Width.{Width}
-use Rattle.counts.specs.declared.Width.the-variants.{Four, Seven, Thirteen}
-
--- the bits of a masked width
-abbrev pub bitsOf : Width → ℕ
-bitsOf Four = 4
-bitsOf Seven = 7
-bitsOf Thirteen = 13
 
 -- going on from a count by n, round the width
 abbrev pub onward : ℕ → ℕ → ℕ → ℕ

@@ -2,25 +2,23 @@
 // type each, so that one never stands in for another. Each goes on by one and tells the step to another, round its width,
 // for every value that its type can hold.
 ghost use mathlib.Core.Path.{_≡_};
-ghost use Prim.Native.Nat.{_%_, _^_};
-ghost use Rattle.counts.specs.Round.{bitsOf, onward, step};
+ghost use Prim.Native.Nat.{_%_, _^_, _<_};
+ghost use Rattle.counts.specs.Round.{onward, step};
 
-// The widths of the masked counts, in bits.
-enum Width {
-    Four,
-    Seven,
-    Thirteen,
+// n round a width in bits: what stands under its mask.
+fn round(n: u16, bits: u16) -> u16
+    requires { ⌜ bits < 16 ⌝ }
+    ensures { λ r. ⌜ r ≡ n % 2 ^ bits ⌝ }
+{
+    n & ((1 << bits) - 1)
 }
 
-// n round a width: the bits under its mask.
-fn round(n: u16, width: Width) -> u16
-    ensures { λ r. ⌜ r ≡ n % 2 ^ bitsOf width ⌝ }
+// The step from one count to another, round a width.
+fn step_round(last: u16, new: u16, bits: u16) -> u16
+    requires { ⌜ bits < 16 ⌝ }
+    ensures { λ r. ⌜ r ≡ step bits last new ⌝ }
 {
-    match width {
-        Width::Four => n & 15,
-        Width::Seven => n & 127,
-        Width::Thirteen => n & 8191,
-    }
+    round(std::num::wrapping_sub_u16(new, last), bits)
 }
 
 // The sequence of digit payloads (Annex A), of 8 bits.
@@ -53,16 +51,13 @@ impl SignallingCount {
     pub fn next(self) -> Self
         ensures { λ r. ⌜ r .0 ≡ onward 7 (self .0) 1 ⌝ }
     {
-        SignallingCount(round(std::num::wrapping_add_u16(self.0 as u16, 1), Width::Seven) as u8)
+        SignallingCount(round(std::num::wrapping_add_u16(self.0 as u16, 1), 7) as u8)
     }
 
     pub fn step_to(self, new: SignallingCount) -> u8
         ensures { λ r. ⌜ r ≡ step 7 (self .0) (new .0) ⌝ }
     {
-        round(
-            std::num::wrapping_sub_u16(new.0 as u16, self.0 as u16),
-            Width::Seven,
-        ) as u8
+        step_round(self.0 as u16, new.0 as u16, 7) as u8
     }
 }
 
@@ -70,16 +65,13 @@ impl VoiceCount {
     pub fn next(self) -> Self
         ensures { λ r. ⌜ r .0 ≡ onward 4 (self .0) 1 ⌝ }
     {
-        VoiceCount(round(std::num::wrapping_add_u16(self.0 as u16, 1), Width::Four) as u8)
+        VoiceCount(round(std::num::wrapping_add_u16(self.0 as u16, 1), 4) as u8)
     }
 
     pub fn step_to(self, new: VoiceCount) -> u8
         ensures { λ r. ⌜ r ≡ step 4 (self .0) (new .0) ⌝ }
     {
-        round(
-            std::num::wrapping_sub_u16(new.0 as u16, self.0 as u16),
-            Width::Four,
-        ) as u8
+        step_round(self.0 as u16, new.0 as u16, 4) as u8
     }
 }
 
@@ -87,12 +79,12 @@ impl DataCount {
     pub fn next(self) -> Self
         ensures { λ r. ⌜ r .0 ≡ onward 13 (self .0) 1 ⌝ }
     {
-        DataCount(round(std::num::wrapping_add_u16(self.0, 1), Width::Thirteen))
+        DataCount(round(std::num::wrapping_add_u16(self.0, 1), 13))
     }
 
     pub fn step_to(self, new: DataCount) -> u16
         ensures { λ r. ⌜ r ≡ step 13 (self .0) (new .0) ⌝ }
     {
-        round(std::num::wrapping_sub_u16(new.0, self.0), Width::Thirteen)
+        step_round(self.0, new.0, 13)
     }
 }

@@ -1,90 +1,84 @@
 -- The claims of specs/Claims.antt.
 use Prim.Native.Nat.{ℕ, zero, suc, _+_, _*_, _/_, _%_, _<_, _≤_}
-use mathlib.Core.Path.{_≡_, sym, ap, _∙_}
+use mathlib.Core.Path.{_≡_, refl, sym, ap, _∙_}
 use mathlib.Core.List.{List, [], _∷_}
 use mathlib.Core.Bool.{Bool, true, false, cond}
 use mathlib.Core.Logic.{⊎-elim}
 use native.Mathlib.Nat.{zero-mul, one-mul}
 use native.Mathlib.Omega.{arith}
-use borrow.Author.Tests.{eq-eqb, ne-eqb}
-use lib.Dec.{eqb}
+use borrow.Author.Tests.{ltb-false, ne-eqb, eqb-false}
+use lib.Dec.{ltb, eqb}
 use lib.ListN.{length, drop}
-use Rattle.octets.proofs.Order.{lt-or-le, eq-or-ne}
+use Rattle.octets.proofs.Order.{eq-or-ne, past}
 use Rattle.octets.proofs.MadeBack.{same-made}
 use Rattle.counts.specs.declared.DataCount.{DataCount}
-use Rattle.data.specs.declared.DataRead.{DataRead}
 use Rattle.data.specs.declared.DataRead.the-variants.{Fragment, BadData}
-use Rattle.data.specs.Data.{beginsIn, endsIn, thirdBit, sequenceIn, judged, dataRead, firstOctet, secondOctet}
+use Rattle.data.specs.Data.{beginsIn, endsIn, thirdBit, sequenceIn, dataRead, firstOctet, secondOctet}
 use Rattle.data.specs.Claims.{MadeReadsBack, ReadIsMade}
 use Rattle.data.proofs.DataCases as cases
 
--- the fields of the first octet that is made, where the sequence has 13 bits
-record Fields (begins ends : Bool) (s : ℕ) : Type 0 where
-  third : thirdBit (firstOctet begins ends s) ≡ 1 → ⊥
-  low : firstOctet begins ends s % 32 ≡ s / 256
-  b : beginsIn (firstOctet begins ends s) ≡ begins
-  e : endsIn (firstOctet begins ends s) ≡ ends
+-- a bit as a number
+record Bit (set : Bool) : Type 0 where
+  n : ℕ
+  small : n ≤ 1
+  at : (place : ℕ) → cond set place 0 ≡ n * place
+  is : eqb n 1 ≡ set
 
-fields : (begins ends : Bool) (s : ℕ) → s ≤ 8191 → Fields begins ends s
-fields true true s h =
+bit : (set : Bool) → Bit set
+bit true = record { n = 1; small = omega arith; at = λ place. sym (one-mul place); is = refl }
+bit false = record { n = 0; small = omega arith; at = λ place. sym (zero-mul place); is = refl }
+
+-- the fields of a payload that is made, where the sequence has 13 bits
+record Fields (begins ends : Bool) (s : ℕ) (rest : List ℕ) : Type 0 where
+  third : thirdBit (firstOctet begins ends s ∷ rest) ≡ false
+  low : firstOctet begins ends s % 32 ≡ s / 256
+  b : beginsIn (firstOctet begins ends s ∷ rest) ≡ begins
+  e : endsIn (firstOctet begins ends s ∷ rest) ≡ ends
+
+fields : (begins ends : Bool) (s : ℕ) (rest : List ℕ) → s ≤ 8191 → Fields begins ends s rest
+fields begins ends s rest h =
+    let x = bit begins in
+    let y = bit ends in
+    let first : ℕ = firstOctet begins ends s in
+    let is : first ≡ x .n * 128 + y .n * 64 + s / 256 = omega (arith, x .at 128, y .at 64) in
+    let one : first / 128 ≡ x .n = omega (arith, y .small) in
+    let two : first / 64 % 2 ≡ y .n = omega (arith, y .small) in
     record {
-      third = λ z. omega arith;
+      third = ne-eqb (first / 32 % 2) 1 (λ z. omega (arith, y .small));
       low = omega arith;
-      b = eq-eqb (firstOctet true true s / 128) 1 (omega arith);
-      e = eq-eqb (firstOctet true true s / 64 % 2) 1 (omega arith);
-    }
-fields true false s h =
-    record {
-      third = λ z. omega arith;
-      low = omega arith;
-      b = eq-eqb (firstOctet true false s / 128) 1 (omega arith);
-      e = ne-eqb (firstOctet true false s / 64 % 2) 1 (λ z. omega arith);
-    }
-fields false true s h =
-    record {
-      third = λ z. omega arith;
-      low = omega arith;
-      b = ne-eqb (firstOctet false true s / 128) 1 (λ z. omega arith);
-      e = eq-eqb (firstOctet false true s / 64 % 2) 1 (omega arith);
-    }
-fields false false s h =
-    record {
-      third = λ z. omega arith;
-      low = omega arith;
-      b = ne-eqb (firstOctet false false s / 128) 1 (λ z. omega arith);
-      e = ne-eqb (firstOctet false false s / 64 % 2) 1 (λ z. omega arith);
+      b = ap (λ (n : ℕ). eqb n 1) one ∙ x .is;
+      e = ap (λ (n : ℕ). eqb n 1) two ∙ y .is;
     }
 
 some-length : (body : List ℕ) → (length body ≡ 0 → ⊥) → 3 ≤ suc (suc (length body))
 some-length body h = ⊎-elim (λ z. absurd (h z)) (λ z. omega arith) (eq-or-ne (length body) 0)
 
 pub made-reads-back : MadeReadsBack
-unfolding dataRead
 made-reads-back begins ends sequence body octets m =
     let s : ℕ = sequence .0 in
-    let h : s ≤ 8191 = cases.in-range begins ends s body octets m in
-    let some = cases.has-body begins ends s body octets m in
-    let is : octets ≡ firstOctet begins ends s ∷ secondOctet s ∷ body = same-made _ _ _ m (cases.made-right begins ends s body some h) in
-    let f = fields begins ends s h in
+    let f = cases.fitting begins ends s body octets m in
+    let is : octets ≡ firstOctet begins ends s ∷ secondOctet s ∷ body = same-made _ _ _ m (cases.made-right begins ends s body (f .0) (f .1)) in
+    let told = fields begins ends s (secondOctet s ∷ body) (f .1) in
     let whole : s / 256 * 256 + s % 256 ≡ s = omega arith in (
-      rw is
-          (cases.right (suc (suc (length body))) (firstOctet begins ends s) (secondOctet s) (some-length body some) (f .third)
-          ∙ simp (f .b, f .e, f .low, whole)),
+      rw is (cases.right _ (some-length body (f .0)) (told .third) ∙ simp (told .b, told .e, told .low, whole)),
       ap (drop 2) is,
     )
 
-bad-fragment : {A : Type 0} (r : DataRead) (number : ℕ) (b e : Bool) (s : DataCount) → r ≡ BadData number → r ≡ Fragment b e s → A
-bad-fragment r number b e s p q = let z : _≡_ {A = ℕ} 0 1 = cc in absurd (omega arith)
+never : {A : Type 0} (number : ℕ) (b e : Bool) (s : DataCount) → BadData number ≡ Fragment b e s → A
+never number b e s p = let z : _≡_ {A = ℕ} 0 1 = cc in absurd (omega arith)
 
-module _ (n first second : ℕ) (b e : Bool) (s : DataCount) (is : judged n first second ≡ Fragment b e s) where
-  whole : 3 ≤ n
-  whole = ⊎-elim (λ h. bad-fragment _ _ _ _ _ (cases.short n first second h) is) (λ h. h) (lt-or-le n 3)
+-- what holds of a payload that was read
+record Was (p : List ℕ) (b e : Bool) (s : DataCount) : Type 0 where
+  whole : 3 ≤ length p
+  clear : thirdBit p ≡ false
+  is : Fragment (beginsIn p) (endsIn p) (sequenceIn p) ≡ Fragment b e s
 
-  clear : thirdBit first ≡ 1 → ⊥
-  clear h = bad-fragment _ _ _ _ _ (cases.reserved n first second whole h) is
-
-  same : Fragment (beginsIn first) (endsIn first) (sequenceIn first second) ≡ Fragment b e s
-  same = sym (cases.right n first second whole clear) ∙ is
+was : (p : List ℕ) (b e : Bool) (s : DataCount) → dataRead p ≡ Fragment b e s → Was p b e s
+unfolding dataRead
+was p b e s is =
+    let whole = past (ltb (length p) 3) _ _ _ (never _ b e s) is in
+    let clear = past (thirdBit p) _ _ _ (never _ b e s) (whole .1) in
+    record { whole = ltb-false (length p) 3 (whole .0); clear = clear .0; is = clear .1 }
 
 -- the bits of an octet
 pieces : (x : ℕ) → x / 128 * 128 + x / 64 % 2 * 64 + x / 32 % 2 * 32 + x % 32 ≡ x
@@ -99,41 +93,37 @@ tested zero place h = sym (zero-mul place)
 tested (suc zero) place h = sym (one-mul place)
 tested (suc (suc n)) place h = absurd (omega arith)
 
-cleared : (x : ℕ) → (thirdBit x ≡ 1 → ⊥) → thirdBit x ≡ 0
-cleared x h = ⊎-elim (λ z. absurd (h z)) (λ z. omega arith) (eq-or-ne (thirdBit x) 1)
+cleared : (x : ℕ) → eqb (x / 32 % 2) 1 ≡ false → x / 32 % 2 ≡ 0
+cleared x h = ⊎-elim (λ z. absurd (eqb-false (x / 32 % 2) 1 h z)) (λ z. omega arith) (eq-or-ne (x / 32 % 2) 1)
 
 -- an octet with a clear third bit is made of its fields
 octet-again :
-    (first second : ℕ)
+    (first second : ℕ) (body : List ℕ)
     → first < 256
     → second < 256
-    → thirdBit first ≡ 0
-    → firstOctet (beginsIn first) (endsIn first) (first % 32 * 256 + second) ≡ first
-octet-again first second h k c =
+    → first / 32 % 2 ≡ 0
+    → firstOctet (beginsIn (first ∷ body)) (endsIn (first ∷ body)) (first % 32 * 256 + second) ≡ first
+octet-again first second body h k c =
     let high : (first % 32 * 256 + second) / 256 ≡ first % 32 = omega arith in
     simp (tested (first / 128) 128 (omega arith), tested (first / 64 % 2) 64 (omega arith), high)
-    (without (first / 128) (first / 64 % 2) (thirdBit first) (first % 32) first c (pieces first))
-
-no-fragment : {A : Type 0} (n first second : ℕ) (b e : Bool) (s : DataCount) → n < 3 → judged n first second ≡ Fragment b e s → A
-no-fragment n first second b e s h is = bad-fragment _ _ _ _ _ (cases.short n first second h) is
+    (without (first / 128) (first / 64 % 2) (first / 32 % 2) (first % 32) first c (pieces first))
 
 pub read-is-made : ReadIsMade
-unfolding dataRead
-read-is-made [] b e s small is = no-fragment _ _ _ _ _ _ (omega arith) is
-read-is-made (x ∷ []) b e s small is = no-fragment _ _ _ _ _ _ (omega arith) is
+read-is-made [] b e s small is = absurd (omega (arith, was [] b e s is .whole))
+read-is-made (x ∷ []) b e s small is = absurd (omega (arith, was (x ∷ []) b e s is .whole))
 read-is-made (first ∷ second ∷ body) b e s small is =
-    let n : ℕ = length (first ∷ second ∷ body) in
+    let p : List ℕ = first ∷ second ∷ body in
+    let w = was p b e s is in
     let h : first < 256 = small 0 in
     let k : second < 256 = small 1 in
-    let c : thirdBit first ≡ 0 = cleared first (clear n first second b e s is) in
-    let m : 3 ≤ n = whole n first second b e s is in
+    let whole : 3 ≤ length p = w .whole in
     let some : length body ≡ 0 → ⊥ = λ z. omega arith in
     let t = first % 32 * 256 + second in
     let range : t ≤ 8191 = omega arith in
-    let f = same n first second b e s is in
-    let p : beginsIn first ≡ b = cc in
-    let q : endsIn first ≡ e = cc in
-    let r : sequenceIn first second ≡ s = cc in
-    let again = octet-again first second h k c in
+    let f = w .is in
+    let begins : beginsIn p ≡ b = cc in
+    let ends : endsIn p ≡ e = cc in
+    let sequence : sequenceIn p ≡ s = cc in
+    let again = octet-again first second (second ∷ body) h k (cleared first (w .clear)) in
     let low : t % 256 ≡ second = omega arith in
-    rw (← p, ← q, ← r) (cases.made-right (beginsIn first) (endsIn first) t body some range ∙ simp (again, low))
+    rw (← begins, ← ends, ← sequence) (cases.made-right (beginsIn p) (endsIn p) t body some range ∙ simp (again, low))

@@ -1,43 +1,33 @@
 -- What `dataRead` and `dataMade` give in each of their cases.
 use Prim.Native.Nat.{ℕ, _+_, _<_, _≤_}
-use mathlib.Core.Path.{_≡_, ap, _∙_}
+use mathlib.Core.Path.{_≡_, refl, ap, _∙_}
 use mathlib.Core.List.{List, _∷_}
 use mathlib.Core.Bool.{Bool, true, false, cond}
-use mathlib.Core.Logic.{⊎-elim}
 use native.Mathlib.Omega.{arith}
-use borrow.Author.Tests.{lt-ltb, le-ltb, eq-eqb, ne-eqb}
-use lib.ListN.{length, getD}
+use borrow.Author.Tests.{lt-ltb, le-ltb, ltb-false, eq-eqb, ne-eqb, eqb-false}
+use lib.Dec.{ltb, eqb}
+use lib.ListN.{length}
 use Rattle.refusal.specs.Numbers.{lengthWrong, reservedCode, valueOutOfRange}
 use Rattle.octets.specs.declared.Fit.the-variants.{Octets}
 use Rattle.octets.specs.Made.{made, unmade, fitOf}
-use Rattle.octets.proofs.Order.{lt-or-le}
-use Rattle.octets.proofs.MadeBack.{never-made}
+use Rattle.octets.proofs.Order.{past}
+use Rattle.octets.proofs.MadeBack.{octets-made, never-made}
 use Rattle.data.specs.declared.DataRead.the-variants.{Fragment, BadData}
-use Rattle.data.specs.Data.{beginsIn, endsIn, thirdBit, sequenceIn, judged, dataRead, firstOctet, secondOctet, dataMade}
+use Rattle.data.specs.Data.{beginsIn, endsIn, thirdBit, sequenceIn, dataRead, firstOctet, secondOctet, dataMade}
 
-module _ (n first second : ℕ) where
-  pub short : n < 3 → judged n first second ≡ BadData lengthWrong
-  unfolding judged
-  short h = simp (lt-ltb n 3 h)
+module _ (p : List ℕ) where
+  pub short : length p < 3 → dataRead p ≡ BadData lengthWrong
+  unfolding dataRead
+  short h = simp (lt-ltb (length p) 3 h)
 
-  module _ (whole : 3 ≤ n) where
-    pub reserved : thirdBit first ≡ 1 → judged n first second ≡ BadData reservedCode
-    unfolding judged
-    reserved h = simp (le-ltb n 3 whole, eq-eqb (thirdBit first) 1 h)
+  module _ (whole : 3 ≤ length p) where
+    pub reserved : thirdBit p ≡ true → dataRead p ≡ BadData reservedCode
+    unfolding dataRead
+    reserved h = simp (le-ltb (length p) 3 whole, h)
 
-    pub right :
-        (thirdBit first ≡ 1 → ⊥) → judged n first second ≡ Fragment (beginsIn first) (endsIn first) (sequenceIn first second)
-    unfolding judged
-    right h = simp (le-ltb n 3 whole, ne-eqb (thirdBit first) 1 h)
-
--- the payload, by the octets that the code has
-pub read-by :
-    (payload : List ℕ) (first second : ℕ)
-    → first ≡ getD payload 0 0
-    → second ≡ getD payload 1 0
-    → dataRead payload ≡ judged (length payload) first second
-unfolding dataRead
-read-by payload first second p q = simp (p, q)
+    pub right : thirdBit p ≡ false → dataRead p ≡ Fragment (beginsIn p) (endsIn p) (sequenceIn p)
+    unfolding dataRead
+    right h = simp (le-ltb (length p) 3 whole, h)
 
 module _ (begins ends : Bool) (sequence : ℕ) (body : List ℕ) where
   pub made-empty : length body ≡ 0 → dataMade begins ends sequence body ≡ unmade lengthWrong
@@ -60,12 +50,15 @@ module _ (begins ends : Bool) (sequence : ℕ) (body : List ℕ) where
         ap fitOf (made-right h) ∙ ap Octets two
 
   -- what is made has a body, and a sequence of 13 bits
-  module _ (octets : List ℕ) (e : dataMade begins ends sequence body ≡ made octets) where
-    pub has-body : length body ≡ 0 → ⊥
-    has-body h = never-made _ _ _ (made-empty h) e
+  pub fitting : (octets : List ℕ) → dataMade begins ends sequence body ≡ made octets → (length body ≡ 0 → ⊥) × (sequence ≤ 8191)
+  unfolding dataMade
+  fitting octets e =
+      let some = past (eqb (length body) 0) _ _ _ (never-made _ _ octets refl) e in
+      let range = past (ltb 8191 sequence) _ _ _ (never-made _ _ octets refl) (some .1) in
+      (eqb-false (length body) 0 (some .0), ltb-false 8191 sequence (range .0))
 
-    pub in-range : sequence ≤ 8191
-    in-range = ⊎-elim (λ h. never-made _ _ _ (made-beyond has-body h) e) (λ h. h) (lt-or-le 8191 sequence)
+  pub fits : (n : ℕ) → fitOf (dataMade begins ends sequence body) ≡ Octets n → (length body ≡ 0 → ⊥) × (sequence ≤ 8191)
+  fits n e = let m = octets-made (dataMade begins ends sequence body) n e in fitting (m .0) (m .1)
 
 pub bit-small : (set : Bool) (place : ℕ) → cond set place 0 ≤ place
 bit-small true place = omega arith

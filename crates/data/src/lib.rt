@@ -4,9 +4,9 @@ use octets::Fit;
 use octets::Put;
 ghost use mathlib.Core.Path.{_≡_};
 ghost use mathlib.Core.Bool.{Bool, cond};
-ghost use Prim.Native.Nat.{_<_};
+ghost use Prim.Native.Nat.{_≤_};
 ghost use Rattle.octets.specs.Made.{fitOf, putMade, leftMade};
-ghost use Rattle.data.specs.Data.{dataRead, dataMade};
+ghost use Rattle.data.specs.Data.{dataRead, front, dataMade};
 
 // The largest sequence of 13 bits.
 const MOST_SEQUENCE: u16 = 8191;
@@ -22,12 +22,6 @@ pub enum DataRead {
     BadData(u8),
 }
 
-fn wide(octet: u8) -> u16
-    ensures { λ r. ⌜ (r ≡ octet) × (r < 256) ⌝ }
-{
-    octet as u16
-}
-
 // Reads a data payload.
 pub fn read_data(payload: &[u8]) -> DataRead
     ensures { λ r. ⌜ r ≡ dataRead (now (payload .entry)) ⌝ }
@@ -35,16 +29,14 @@ pub fn read_data(payload: &[u8]) -> DataRead
     if payload.len() < 3 {
         return DataRead::BadData(refusal::LENGTH_WRONG);
     }
-    let first = octets::octet(payload, 0);
+    let first = payload[0];
     if first / 32 % 2 == 1 {
         return DataRead::BadData(refusal::RESERVED_CODE);
     }
-    let high = wide(first);
-    let low = wide(octets::octet(payload, 1));
     DataRead::Fragment {
         begins: first / 128 == 1,
         ends: first / 64 % 2 == 1,
-        sequence: DataCount(high % 32 * 256 + low),
+        sequence: DataCount(octets::double(first % 32, payload[1])),
     }
 }
 
@@ -68,6 +60,16 @@ fn bit(set: bool, place: u8) -> u8
     if set { place } else { 0 }
 }
 
+// The two octets before the body; of the sequence there are 13 bits.
+fn front(begins: bool, ends: bool, sequence: DataCount) -> [u8; 2]
+    requires { ⌜ sequence .0 ≤ 8191 ⌝ }
+    ensures { λ r. ⌜ r ≡ front begins ends (sequence .0) ⌝ }
+{
+    let high = (sequence.0 / 256) as u8;
+    let low = (sequence.0 % 256) as u8;
+    [bit(begins, 128) + bit(ends, 64) + high, low]
+}
+
 // Writes a data payload at a place of lent room.
 pub fn put_data(
     room: &mut [u8],
@@ -82,15 +84,9 @@ pub fn put_data(
 {
     match fit_data(sequence, body) {
         Fit::Unfit(number) => Put::NotWritten(number),
-        Fit::Octets(size) => {
-            if octets::exceeds(room.len(), at, size) {
-                return Put::NotWritten(refusal::ROOM_TOO_SMALL);
-            }
-            let high = (sequence.0 / 256) as u8;
-            let low = (sequence.0 % 256) as u8;
-            room[at] = bit(begins, 128) + bit(ends, 64) + high;
-            room[at + 1] = low;
-            octets::put_octets(room, at + 2, body)
+        Fit::Octets(_) => {
+            let head = front(begins, ends, sequence);
+            octets::put_both(room, at, &head, body)
         }
     }
 }

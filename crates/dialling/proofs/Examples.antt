@@ -1,6 +1,6 @@
 -- The worked runs of specs/Examples.antt, by computing.
 use mathlib.Core.Path.{refl}
-use Rattle.digits.specs.Layout.{judged, digitsRead}
+use Rattle.digits.specs.Layout.{digitsRead}
 use Rattle.dialling.specs.Sender.{sending}
 use Rattle.dialling.specs.Receiver.{received}
 use Rattle.dialling.specs.Examples.{ATone, ACode, Refusals, Steps, AfterVoice, NotTaken}
@@ -18,13 +18,13 @@ unfolding sending
 refusals = refl
 
 pub steps : Steps
-unfolding received digitsRead judged
+unfolding received digitsRead
 steps = refl
 
 pub after-voice : AfterVoice
-unfolding received digitsRead judged
+unfolding received digitsRead
 after-voice = refl
 
 pub not-taken : NotTaken
-unfolding received digitsRead judged
+unfolding received digitsRead
 not-taken = refl

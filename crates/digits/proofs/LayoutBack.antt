@@ -1,25 +1,25 @@
 -- Digits payloads, written and read: the claims of specs/Claims.antt, and what the code stores.
 use Prim.Native.Nat.{ℕ, zero, suc, _+_, _/_, _%_, _≤_}
 use mathlib.Core.Path.{_≡_, refl, sym, ap, subst, _∙_}
-use mathlib.Core.List.{List, [], _∷_, _++_}
-use mathlib.Core.Bool.{Bool, true, false, cond}
+use mathlib.Core.List.{List, _∷_, _++_}
+use mathlib.Core.Bool.{Bool, true, false, not}
 use mathlib.Core.Logic.{_⊎_, ⊎-elim}
 use native.Mathlib.Omega.{arith}
-use borrow.Author.Tests.{lt-ltb, le-ltb, le-leb, lt-leb, eq-eqb, ne-eqb}
+use borrow.Author.Tests.{le-ltb, ltb-false, le-leb, lt-leb, eq-eqb, ne-eqb, eqb-true, not-false}
+use lib.Dec.{ltb, eqb}
 use lib.ListN.{length, getD}
 use lib.IntN.{ℤ, pos, negsuc, negℤ}
-use Rattle.octets.proofs.Order.{lt-or-le, eq-or-ne, clash, either}
-use Rattle.octets.proofs.MadeBack.{same-made, never-made}
-use Rattle.octets.specs.Made.{made}
-use Rattle.levels.specs.declared.Coded.{Coded}
+use Rattle.octets.proofs.Order.{lt-or-le, eq-or-ne, clash, neither, past}
+use Rattle.octets.proofs.MadeBack.{octets-made, same-made, never-made}
+use Rattle.octets.specs.Made.{made, fitOf}
+use Rattle.octets.specs.declared.Fit.the-variants.{Octets}
 use Rattle.levels.specs.declared.Coded.the-variants.{Code}
 use Rattle.levels.specs.Level.{levelOf, codeOf}
 use Rattle.levels.proofs.Laws.{code-of-level}
 use Rattle.digits.specs.declared.layout.Window.{Window}
 use Rattle.digits.specs.declared.layout.Digits.{Digits}
-use Rattle.digits.specs.declared.layout.DigitsRead.{DigitsRead}
 use Rattle.digits.specs.declared.layout.DigitsRead.the-variants.{Dialled, BadDigits}
-use Rattle.digits.specs.Layout.{windowReserved, windowOut, windowOf, judged, windowWrong, windowOctets, levelLow, levelCode, digitsOctets, digitsMade}
+use Rattle.digits.specs.Layout.{windowOf, spareSet, windowReserved, sequenceIn, levelIn, anyReserved, digitsIn, windowWrong, windowsWrong, digitsRead, typeAndEdge, codeWhenOn, windowOctets, levelLow, levelCode, digitsOctets, digitsMade}
 use Rattle.digits.specs.Claims.{normalLevel, normalWindow, normal, DigitsReadBack, heard, unheard, DigitsMadeAgain, DigitsReadAlike}
 use Rattle.digits.proofs.LayoutCases as cases
 
@@ -30,72 +30,60 @@ pub record Fitting (d : Digits) : Type 0 where
   pub w1 : windowWrong (d .recent) ≡ false
   pub w2 : windowWrong (d .previous) ≡ false
 
+pub none-wrong : (d : Digits) → Fitting d → windowsWrong d ≡ false
+none-wrong d f = simp (f .w0, f .w1, f .w2)
+
 pub fitting : (d : Digits) (octets : List ℕ) → digitsMade d ≡ made octets → Fitting d
+unfolding digitsMade
 fitting d octets e =
-    either (λ low. never-made _ _ octets (cases.low d low) e)
-    (λ fair.
-    either (λ wrong. never-made _ _ octets (cases.wrong0 d fair wrong) e)
-    (λ w0.
-    either (λ wrong. never-made _ _ octets (cases.wrong1 d fair w0 wrong) e)
-    (λ w1.
-    either (λ wrong. never-made _ _ octets (cases.wrong2 d fair w0 w1 wrong) e)
-    (λ w2. record { fair = fair; w0 = w0; w1 = w1; w2 = w2 })
-    (windowWrong (d .previous))
-    refl)
-    (windowWrong (d .recent))
-    refl)
-    (windowWrong (d .current))
-    refl)
-    (levelLow (codeOf 31 (d .level)))
-    refl
+    let level = past (levelLow (codeOf 31 (d .level))) _ _ _ (never-made _ _ octets refl) e in
+    let windows = past (windowsWrong d) _ _ _ (never-made _ _ octets refl) (level .1) in
+    let first = neither _ _ (windows .0) in
+    let others = neither _ _ (first .1) in
+    record { fair = level .0; w0 = first .0; w1 = others .0; w2 = others .1 }
+
+pub fits : (d : Digits) (n : ℕ) → fitOf (digitsMade d) ≡ Octets n → Fitting d
+fits d n e = let m = octets-made (digitsMade d) n e in fitting d (m .0) (m .1)
 
 pub made-octets : (d : Digits) → Fitting d → digitsMade d ≡ made (digitsOctets d)
-made-octets d f = cases.all-right d (f .fair) (f .w0) (f .w1) (f .w2)
+made-octets d f = cases.all-right d (f .fair) (none-wrong d f)
 
 -- a window in its range
-pub edge-small : (on : Bool) (edge code : ℕ) → windowWrong (record { on = on; edge = edge; code = code }) ≡ false → edge ≤ 19
-edge-small on edge code e =
-    ⊎-elim (λ over. clash (windowWrong (record { on = on; edge = edge; code = code })) (simp (lt-ltb 19 edge over)) e) (λ h. h)
-    (lt-or-le 19 edge)
+pub edge-small : (w : Window) → windowWrong w ≡ false → w .edge ≤ 19
+edge-small w e = ltb-false 19 (w .edge) (neither _ _ e .0)
 
 code-small : (edge code : ℕ) → windowWrong (record { on = true; edge = edge; code = code }) ≡ false → code ≤ 15
-code-small edge code e =
-    let h = edge-small true edge code e in
-    ⊎-elim
-    (λ over. clash (windowWrong (record { on = true; edge = edge; code = code })) (simp (le-ltb 19 edge h, lt-ltb 15 code over)) e)
-    (λ k. k)
-    (lt-or-le 15 code)
+code-small edge code e = ltb-false 15 code (neither (ltb 19 edge) _ e .1)
+
+pub edges-small : (d : Digits) → windowsWrong d ≡ false → (d .current .edge ≤ 19) × (d .recent .edge ≤ 19) × (d .previous .edge ≤ 19)
+edges-small d e =
+    let first = neither (windowWrong (d .current)) _ e in
+    let others = neither (windowWrong (d .recent)) _ (first .1) in
+    (edge-small (d .current) (first .0), edge-small (d .recent) (others .0), edge-small (d .previous) (others .1))
 
 -- a window that was written reads back
-record Back (a b : ℕ) (w : Window) : Type 0 where
-  free : windowReserved a b ≡ false
-  in-range : windowOut a b ≡ false
-  is : windowOf a b ≡ normalWindow w
+record Back (first second : ℕ) (w : Window) : Type 0 where
+  free : windowReserved first second ≡ false
+  is : windowOf first second ≡ normalWindow w
+  in-range : windowWrong (normalWindow w) ≡ false
 
 window-back : (on : Bool) (edge code : ℕ)
-    → windowWrong (record { on = on; edge = edge; code = code }) ≡ false
-    → Back (cond on 32 0 + edge) (cond on code 0) (record { on = on; edge = edge; code = code })
+    → let w : Window = record { on = on; edge = edge; code = code } in
+    windowWrong w ≡ false
+    → Back (typeAndEdge w) (codeWhenOn w) w
 window-back true edge code e =
-    let h = edge-small true edge code e in
+    let h = edge-small (record { on = true; edge = edge; code = code }) e in
     let k = code-small edge code e in
     let type : (32 + edge) / 32 ≡ 1 = omega arith in
     let at : (32 + edge) % 32 ≡ edge = omega arith in
     let none : code / 32 ≡ 0 = omega arith in
     let same : code % 32 ≡ code = omega arith in
-    record {
-      free = rw (type, none);
-      in-range = rw (type, at, same) (simp (le-ltb 19 edge h, le-ltb 15 code k));
-      is = rw (type, at, same);
-    }
+    record { free = rw (type, none); is = rw (type, at, same); in-range = e }
 window-back false edge code e =
-    let h = edge-small false edge code e in
-    let type : (0 + edge) / 32 ≡ 0 = omega arith in
-    let at : (0 + edge) % 32 ≡ edge = omega arith in
-    record {
-      free = rw type;
-      in-range = rw (type, at) (simp (le-ltb 19 edge h));
-      is = rw (type, at);
-    }
+    let h = edge-small (record { on = false; edge = edge; code = code }) e in
+    let type : edge / 32 ≡ 0 = omega arith in
+    let at : edge % 32 ≡ edge = omega arith in
+    record { free = rw type; is = rw (type, at); in-range = e }
 
 -- a level that was written reads back
 level-back : (z : ℤ) → levelLow (codeOf 31 z) ≡ false → (levelCode (codeOf 31 z) ≤ 31) × (levelOf (levelCode (codeOf 31 z)) ≡ normalLevel z)
@@ -111,6 +99,7 @@ level-back (negsuc n) e =
 pub digits-read-back : DigitsReadBack
 digits-read-back d octets e =
     let f = fitting d octets e in
+    let o : List ℕ = digitsOctets d in
     let c = d .current in
     let r = d .recent in
     let p = d .previous in
@@ -118,184 +107,91 @@ digits-read-back d octets e =
     let b1 = window-back (r .on) (r .edge) (r .code) (f .w1) in
     let b2 = window-back (p .on) (p .edge) (p .code) (f .w2) in
     let level = level-back (d .level) (f .fair) in
-    let small = level .0 in
-    rw (same-made _ octets (digitsOctets d) e (made-octets d f))
-    (cases.eight (digitsOctets d) refl
-    ∙ cases.right _ _ _ _ _ _ _ _ (omega arith) (b0 .free) (b1 .free) (b2 .free) (b0 .in-range) (b1 .in-range) (b2 .in-range)
-    ∙ rw (level .1, b0 .is, b1 .is, b2 .is))
+    let is : digitsIn o ≡ normal d = rw (level .1, b0 .is, b1 .is, b2 .is) in
+    let bits : spareSet (levelIn o) ≡ false = le-ltb 0 (levelIn o / 32) (omega (arith, level .0)) in
+    let free : anyReserved o ≡ false = simp (bits, b0 .free, b1 .free, b2 .free) in
+    let fair : windowsWrong (normal d) ≡ false = simp (b0 .in-range, b1 .in-range, b2 .in-range) in
+    ap digitsRead (same-made _ octets o e (made-octets d f))
+    ∙ cases.right o refl free (ap windowsWrong is ∙ fair)
+    ∙ ap Dialled is
 
--- what holds of eight octets that were read
-record Was (s l a0 b0 a1 b1 a2 b2 : ℕ) (d : Digits) : Type 0 where
-  clear : l / 32 ≤ 0
-  f0 : windowReserved a0 b0 ≡ false
-  f1 : windowReserved a1 b1 ≡ false
-  f2 : windowReserved a2 b2 ≡ false
-  g0 : windowOut a0 b0 ≡ false
-  g1 : windowOut a1 b1 ≡ false
-  g2 : windowOut a2 b2 ≡ false
-  is :
-      record {
-        sequence = record { 0 = s };
-        level = levelOf l;
-        current = windowOf a0 b0;
-        recent = windowOf a1 b1;
-        previous = windowOf a2 b2;
-      }
-      ≡ d
+-- what holds of a payload that was read
+record Was (p : List ℕ) (d : Digits) : Type 0 where
+  eight : length p ≡ 8
+  free : anyReserved p ≡ false
+  in-range : windowsWrong (digitsIn p) ≡ false
+  is : digitsIn p ≡ d
 
-never : {A : Type 0} (r : DigitsRead) (number : ℕ) (d : Digits) → r ≡ BadDigits number → r ≡ Dialled d → A
-never r number d p q = let z : _≡_ {A = ℕ} 0 1 = cc in absurd (omega arith)
+never : {A : Type 0} (number : ℕ) (d : Digits) → BadDigits number ≡ Dialled d → A
+never number d e = let z : _≡_ {A = ℕ} 0 1 = cc in absurd (omega arith)
 
-same-digits : (r : DigitsRead) (x y : Digits) → r ≡ Dialled x → r ≡ Dialled y → x ≡ y
-same-digits r x y p q = cc
+same-digits : (x y : Digits) → Dialled x ≡ Dialled y → x ≡ y
+same-digits x y e = cc
 
-was : (s l a0 b0 a1 b1 a2 b2 : ℕ) (d : Digits) → judged s l a0 b0 a1 b1 a2 b2 ≡ Dialled d → Was s l a0 b0 a1 b1 a2 b2 d
-was s l a0 b0 a1 b1 a2 b2 d e =
-    ⊎-elim (λ set. never _ _ d (cases.level-reserved s l a0 b0 a1 b1 a2 b2 set) e)
-    (λ clear.
-    either (λ set. never _ _ d (cases.reserved0 s l a0 b0 a1 b1 a2 b2 clear set) e)
-    (λ f0.
-    either (λ set. never _ _ d (cases.reserved1 s l a0 b0 a1 b1 a2 b2 clear f0 set) e)
-    (λ f1.
-    either (λ set. never _ _ d (cases.reserved2 s l a0 b0 a1 b1 a2 b2 clear f0 f1 set) e)
-    (λ f2.
-    either (λ out. never _ _ d (cases.out0 s l a0 b0 a1 b1 a2 b2 clear f0 f1 f2 out) e)
-    (λ g0.
-    either (λ out. never _ _ d (cases.out1 s l a0 b0 a1 b1 a2 b2 clear f0 f1 f2 g0 out) e)
-    (λ g1.
-    either (λ out. never _ _ d (cases.out2 s l a0 b0 a1 b1 a2 b2 clear f0 f1 f2 g0 g1 out) e)
-    (λ g2.
+was : (p : List ℕ) (d : Digits) → digitsRead p ≡ Dialled d → Was p d
+unfolding digitsRead
+was p d e =
+    let whole = past (not (eqb (length p) 8)) _ _ _ (never _ d) e in
+    let free = past (anyReserved p) _ _ _ (never _ d) (whole .1) in
+    let range = past (windowsWrong (digitsIn p)) _ _ _ (never _ d) (free .1) in
     record {
-      clear = clear;
-      f0 = f0;
-      f1 = f1;
-      f2 = f2;
-      g0 = g0;
-      g1 = g1;
-      g2 = g2;
-      is = same-digits _ _ d (cases.right s l a0 b0 a1 b1 a2 b2 clear f0 f1 f2 g0 g1 g2) e;
-    })
-    (windowOut a2 b2)
-    refl)
-    (windowOut a1 b1)
-    refl)
-    (windowOut a0 b0)
-    refl)
-    (windowReserved a2 b2)
-    refl)
-    (windowReserved a1 b1)
-    refl)
-    (windowReserved a0 b0)
-    refl)
-    (lt-or-le 0 (l / 32))
+      eight = eqb-true (length p) 8 (not-false _ (whole .0));
+      free = free .0;
+      in-range = range .0;
+      is = same-digits _ d (range .1);
+    }
 
--- a window that was read is in range, and its octets are those that were read
-record Again (a b : ℕ) : Type 0 where
-  right : windowWrong (windowOf a b) ≡ false
-  octets-are : windowOctets (windowOf a b) ≡ a ∷ heard a b ∷ []
-  normal-is : normalWindow (windowOf a b) ≡ windowOf a b
+-- a window that was read is normal, and its octets are those that were read
+record Again (first second : ℕ) : Type 0 where
+  octets-are : windowOctets (windowOf first second) ≡ heard first second
+  normal-is : normalWindow (windowOf first second) ≡ windowOf first second
 
-type-small : (a b : ℕ) → windowReserved a b ≡ false → a / 32 ≤ 1
-type-small a b f = ⊎-elim (λ over. clash (windowReserved a b) (simp (lt-ltb 1 (a / 32) over)) f) (λ h. h) (lt-or-le 1 (a / 32))
-
-bits-clear : (a b : ℕ) → windowReserved a b ≡ false → b / 32 ≡ 0
-bits-clear a b f =
-    let type = type-small a b f in
-    ⊎-elim (λ over. clash (windowReserved a b) (simp (le-ltb 1 (a / 32) type, lt-ltb 0 (b / 32) over)) f) (λ h. omega arith)
-    (lt-or-le 0 (b / 32))
-
-edge-in : (a b : ℕ) → windowOut a b ≡ false → a % 32 ≤ 19
-edge-in a b g = ⊎-elim (λ over. clash (windowOut a b) (simp (lt-ltb 19 (a % 32) over)) g) (λ h. h) (lt-or-le 19 (a % 32))
-
-code-in : (a b : ℕ) → a / 32 ≡ 1 → windowOut a b ≡ false → b % 32 ≤ 15
-code-in a b one g =
-    let edge = edge-in a b g in
-    ⊎-elim (λ over. clash (windowOut a b) (simp (le-ltb 19 (a % 32) edge, eq-eqb (a / 32) 1 one, lt-ltb 15 (b % 32) over)) g) (λ h. h)
-    (lt-or-le 15 (b % 32))
-
-window-again : (a b : ℕ) → windowReserved a b ≡ false → windowOut a b ≡ false → Again a b
-window-again a b f g =
-    let edge = edge-in a b g in
-    let type = type-small a b f in
+window-again : (first second : ℕ) → windowReserved first second ≡ false → Again first second
+window-again first second free =
+    let parts = neither _ _ free in
+    let type = ltb-false 1 (first / 32) (parts .0) in
+    let clear = ltb-false 0 (second / 32) (parts .1) in
+    let code : second % 32 ≡ second = omega arith in
     ⊎-elim
-    (λ (one : a / 32 ≡ 1).
-    let clear = bits-clear a b f in
-    let code = code-in a b one g in
-    let first : 32 + a % 32 ≡ a = omega arith in
-    let second : b % 32 ≡ b = omega arith in
-    record {
-      right = simp (eq-eqb (a / 32) 1 one, le-ltb 19 (a % 32) edge, le-ltb 15 (b % 32) code);
-      octets-are = simp (eq-eqb (a / 32) 1 one, first, second);
-      normal-is = simp (eq-eqb (a / 32) 1 one);
-    })
-    (λ (off : a / 32 ≡ 1 → ⊥).
-    let first : 0 + a % 32 ≡ a = none-of a off type in
-    record {
-      right = simp (ne-eqb (a / 32) 1 off, le-ltb 19 (a % 32) edge);
-      octets-are = simp (ne-eqb (a / 32) 1 off, first);
-      normal-is = simp (ne-eqb (a / 32) 1 off);
-    })
-    (eq-or-ne (a / 32) 1)
+    (λ (one : first / 32 ≡ 1).
+    let all : 32 + first % 32 ≡ first = omega arith in
+    record { octets-are = simp (eq-eqb (first / 32) 1 one, all, code); normal-is = simp (eq-eqb (first / 32) 1 one) })
+    (λ (off : first / 32 ≡ 1 → ⊥).
+    let all : first % 32 ≡ first = off-octet first type off in
+    record { octets-are = simp (ne-eqb (first / 32) 1 off, all); normal-is = simp (ne-eqb (first / 32) 1 off) })
+    (eq-or-ne (first / 32) 1)
   where
-    none-of : (a : ℕ) → (a / 32 ≡ 1 → ⊥) → a / 32 ≤ 1 → 0 + a % 32 ≡ a
-    none-of a off type = ⊎-elim (λ z. omega arith) (λ nz. absurd (off (omega arith))) (eq-or-ne (a / 32) 0)
+    off-octet : (first : ℕ) → first / 32 ≤ 1 → (first / 32 ≡ 1 → ⊥) → first % 32 ≡ first
+    off-octet first type off = ⊎-elim (λ z. omega arith) (λ nz. absurd (off (omega arith))) (eq-or-ne (first / 32) 0)
 
 normal-down : (n : ℕ) → normalLevel (negℤ (pos n)) ≡ negℤ (pos n)
 normal-down zero = refl
 normal-down (suc n) = refl
 
+same-row : (sequence : ℕ) {l m : ℕ} {a b c x y z : List ℕ} → l ≡ m → a ≡ x → b ≡ y → c ≡ z → sequence ∷ l ∷ (a ++ (b ++ c)) ≡ sequence ∷ m ∷ (x ++ (y ++ z))
+same-row sequence level p q r = cc
+
 -- the octets again, of a payload that was read
-again :
-    (s l a0 b0 a1 b1 a2 b2 : ℕ) (d : Digits)
-    → Was s l a0 b0 a1 b1 a2 b2 d
-    → (normal d ≡ d)
-    × (digitsMade d ≡ made (s ∷ l ∷ a0 ∷ heard a0 b0 ∷ a1 ∷ heard a1 b1 ∷ a2 ∷ heard a2 b2 ∷ []))
-again s l a0 b0 a1 b1 a2 b2 d w =
-    let clear = w .clear in
-    let w0 = window-again a0 b0 (w .f0) (w .g0) in
-    let w1 = window-again a1 b1 (w .f1) (w .g1) in
-    let w2 = window-again a2 b2 (w .f2) (w .g2) in
-    let small : l ≤ 31 = omega arith in
-    let coded : codeOf 31 (levelOf l) ≡ Code l = code-of-level 31 l (omega arith) small in
-    let read : Digits =
-    record {
-      sequence = record { 0 = s };
-      level = levelOf l;
-      current = windowOf a0 b0;
-      recent = windowOf a1 b1;
-      previous = windowOf a2 b2;
-    }
-    in
-    let f : Fitting read = record { fair = ap levelLow coded; w0 = w0 .right; w1 = w1 .right; w2 = w2 .right } in
-    subst
-    (λ (x : Digits).
-    (normal x ≡ x)
-    × (digitsMade x ≡ made (s ∷ l ∷ a0 ∷ heard a0 b0 ∷ a1 ∷ heard a1 b1 ∷ a2 ∷ heard a2 b2 ∷ [])))
-    (w .is) (
-      rw (normal-down (l % 64), w0 .normal-is, w1 .normal-is, w2 .normal-is),
-      made-octets read f
-          ∙ ap
-          (λ (k : Coded).
-          made
-          (s ∷ levelCode k ∷ (windowOctets (windowOf a0 b0) ++ (windowOctets (windowOf a1 b1) ++ windowOctets (windowOf a2 b2)))))
-          coded
-          ∙ ap (λ (x : List ℕ). made (s ∷ l ∷ (x ++ (windowOctets (windowOf a1 b1) ++ windowOctets (windowOf a2 b2))))) (w0 .octets-are)
-          ∙ ap (λ (x : List ℕ). made (s ∷ l ∷ a0 ∷ heard a0 b0 ∷ (x ++ windowOctets (windowOf a2 b2)))) (w1 .octets-are)
-          ∙ ap (λ (x : List ℕ). made (s ∷ l ∷ a0 ∷ heard a0 b0 ∷ a1 ∷ heard a1 b1 ∷ x)) (w2 .octets-are),
+again : (p : List ℕ) → anyReserved p ≡ false → windowsWrong (digitsIn p) ≡ false → (normal (digitsIn p) ≡ digitsIn p) × (digitsMade (digitsIn p) ≡ made (unheard p))
+again p free range =
+    let level = neither _ _ free in
+    let current = neither _ _ (level .1) in
+    let others = neither _ _ (current .1) in
+    let w0 = window-again (getD p 2 0) (getD p 3 0) (current .0) in
+    let w1 = window-again (getD p 4 0) (getD p 5 0) (others .0) in
+    let w2 = window-again (getD p 6 0) (getD p 7 0) (others .1) in
+    let clear = ltb-false 0 (levelIn p / 32) (level .0) in
+    let coded : codeOf 31 (levelOf (levelIn p)) ≡ Code (levelIn p) = code-of-level 31 (levelIn p) (omega arith) (omega arith) in (
+      rw (normal-down (levelIn p % 64), w0 .normal-is, w1 .normal-is, w2 .normal-is),
+      cases.all-right (digitsIn p) (ap levelLow coded) range ∙ ap made (same-row (sequenceIn p) (ap levelCode coded) (w0 .octets-are) (w1 .octets-are) (w2 .octets-are)),
     )
 
 pub digits-made-again : DigitsMadeAgain
 digits-made-again d p small e =
-    ⊎-elim
-    (λ whole.
-    again (getD p 0 0) (getD p 1 0) (getD p 2 0) (getD p 3 0) (getD p 4 0) (getD p 5 0) (getD p 6 0) (getD p 7 0) d
-    (was _ _ _ _ _ _ _ _ d (sym (cases.eight p whole) ∙ e)))
-    (λ wrong. never _ _ d (cases.wrong p wrong) e)
-    (eq-or-ne (length p) 8)
+    let w = was p d e in
+    subst (λ (x : Digits). (normal x ≡ x) × (digitsMade x ≡ made (unheard p))) (w .is) (again p (w .free) (w .in-range))
 
 pub digits-read-alike : DigitsReadAlike
 digits-read-alike d p small e =
-    let again = digits-made-again d p small e in (
-      ⊎-elim (λ whole. sym whole) (λ wrong. never _ _ d (cases.wrong p wrong) e) (eq-or-ne (length p) 8),
-      digits-read-back d (unheard p) (again .1) ∙ ap Dialled (again .0),
-    )
+    let again = digits-made-again d p small e in
+    (sym (was p d e .eight), digits-read-back d (unheard p) (again .1) ∙ ap Dialled (again .0))

@@ -1,3 +1,2 @@
-pub mod JudgeCases
 pub mod LayoutCases
 pub mod LayoutBack

@@ -1,17 +1,16 @@
 -- Digits payloads written and read (demand 2). Proved in proofs/LayoutBack.antt.
-use Prim.Native.Nat.{ℕ, _/_}
+use Prim.Native.Nat.{ℕ}
 use mathlib.Core.Path.{_≡_}
-use mathlib.Core.List.{List, [], _∷_}
+use mathlib.Core.List.{List, [], _∷_, _++_}
 use mathlib.Core.Bool.{cond}
-use lib.Dec.{eqb}
-use lib.ListN.{length, getD}
+use lib.ListN.{length}
 use lib.IntN.{ℤ, pos, negsuc}
 use Rattle.octets.specs.Octets.{Octets}
 use Rattle.octets.specs.Made.{made}
 use Rattle.digits.specs.declared.layout.Window.{Window}
 use Rattle.digits.specs.declared.layout.Digits.{Digits}
 use Rattle.digits.specs.declared.layout.DigitsRead.the-variants.{Dialled}
-use Rattle.digits.specs.Layout.{digitsRead, digitsMade}
+use Rattle.digits.specs.Layout.{isOn, sequenceIn, levelIn, inCurrent, inRecent, inPrevious, digitsRead, digitsMade}
 
 -- "save that a level above zero and the code of an off window come back as 0"
 abbrev pub normalLevel : ℤ → ℤ
@@ -35,21 +34,12 @@ normal d =
 abbrev pub DigitsReadBack : Type 0
 DigitsReadBack = (d : Digits) (octets : List ℕ) → digitsMade d ≡ made octets → digitsRead octets ≡ Dialled (normal d)
 
--- the code octet of a window, without the code that reading ignores
-abbrev pub heard : ℕ → ℕ → ℕ
-heard a b = cond (eqb (a / 32) 1) b 0
+-- the octets of a payload, without the code of an off window, which reading ignores
+abbrev pub heard : ℕ → ℕ → List ℕ
+heard first second = first ∷ cond (isOn first) second 0 ∷ []
 
 abbrev pub unheard : List ℕ → List ℕ
-unheard p =
-    getD p 0 0
-    ∷ getD p 1 0
-    ∷ getD p 2 0
-    ∷ heard (getD p 2 0) (getD p 3 0)
-    ∷ getD p 4 0
-    ∷ heard (getD p 4 0) (getD p 5 0)
-    ∷ getD p 6 0
-    ∷ heard (getD p 6 0) (getD p 7 0)
-    ∷ []
+unheard p = sequenceIn p ∷ levelIn p ∷ (inCurrent heard p ++ (inRecent heard p ++ inPrevious heard p))
 
 -- What is read is in its normal form, and is made again, to the octet but for the code of an off window.
 abbrev pub DigitsMadeAgain : Type 0

@@ -7,10 +7,11 @@
 --   6, 7      previous window
 use Prim.Native.Nat.{ℕ, _+_, _/_, _%_}
 use mathlib.Core.List.{List, [], _∷_, _++_}
-use mathlib.Core.Bool.{Bool, true, false, cond}
+use mathlib.Core.Bool.{Bool, true, false, not, cond}
 use lib.Dec.{ltb, eqb}
 use lib.ListN.{length, getD}
 use Rattle.refusal.specs.Numbers.{lengthWrong, reservedCode, valueOutOfRange}
+use Rattle.refusal.specs.Order.{_gives_, inOrder, _or_}
 use Rattle.octets.specs.Made.{Made, made, unmade}
 use Rattle.levels.specs.declared.Coded.{Coded}
 use Rattle.levels.specs.declared.Coded.the-variants.{Code, Above, Below}
@@ -24,49 +25,83 @@ use Rattle.digits.specs.declared.layout.DigitsRead.the-variants.{Dialled
 abbrev pub offWindow : Window
 offWindow = record { on = false; edge = 0; code = 0 }
 
--- A window's two octets: "Type 0 off, 1 on, others 14." Three zero bits stand before the code.
+-- ---- Reading
+
+-- "type (3 bits) and edge (5), then 000 and code (5)"; type 1 is on. "The code of an off window is ignored".
+abbrev pub isOn : ℕ → Bool
+isOn first = eqb (first / 32) 1
+
+abbrev pub windowOf : ℕ → ℕ → Window
+windowOf first second = record { on = isOn first; edge = first % 32; code = cond (isOn first) (second % 32) 0 }
+
+-- the three zero bits before the level and before a code
+abbrev pub spareSet : ℕ → Bool
+spareSet octet = ltb 0 (octet / 32)
+
+-- "Type 0 off, 1 on, others 14."
 abbrev pub windowReserved : ℕ → ℕ → Bool
-windowReserved a b = cond (ltb 1 (a / 32)) true (ltb 0 (b / 32))
+windowReserved first second = ltb 1 (first / 32) or spareSet second
+
+-- The fields of a payload; of a window, what its two octets tell.
+abbrev pub sequenceIn : List ℕ → ℕ
+sequenceIn p = getD p 0 0
+
+abbrev pub levelIn : List ℕ → ℕ
+levelIn p = getD p 1 0
+
+abbrev pub inCurrent : {A : Type 0} → (ℕ → ℕ → A) → List ℕ → A
+inCurrent tells p = tells (getD p 2 0) (getD p 3 0)
+
+abbrev pub inRecent : {A : Type 0} → (ℕ → ℕ → A) → List ℕ → A
+inRecent tells p = tells (getD p 4 0) (getD p 5 0)
+
+abbrev pub inPrevious : {A : Type 0} → (ℕ → ℕ → A) → List ℕ → A
+inPrevious tells p = tells (getD p 6 0) (getD p 7 0)
+
+abbrev pub anyReserved : List ℕ → Bool
+anyReserved p = spareSet (levelIn p) or inCurrent windowReserved p or inRecent windowReserved p or inPrevious windowReserved p
+
+abbrev pub digitsIn : List ℕ → Digits
+digitsIn p =
+    record {
+      sequence = record { 0 = sequenceIn p };
+      level = levelOf (levelIn p);
+      current = inCurrent windowOf p;
+      recent = inRecent windowOf p;
+      previous = inPrevious windowOf p;
+    }
 
 -- "Edge 0 to 19, code 0 to 15 when on, else 15."
-abbrev pub windowOut : ℕ → ℕ → Bool
-windowOut a b = cond (ltb 19 (a % 32)) true (cond (eqb (a / 32) 1) (ltb 15 (b % 32)) false)
+abbrev pub windowWrong : Window → Bool
+windowWrong w = ltb 19 (w .edge) or cond (w .on) (ltb 15 (w .code)) false
 
--- "The code of an off window is ignored".
-abbrev pub windowOf : ℕ → ℕ → Window
-windowOf a b = record { on = eqb (a / 32) 1; edge = a % 32; code = cond (eqb (a / 32) 1) (b % 32) 0 }
+abbrev pub windowsWrong : Digits → Bool
+windowsWrong d = windowWrong (d .current) or windowWrong (d .recent) or windowWrong (d .previous)
 
 -- Every 14 comes before any 15.
-unfoldable pub judged : ℕ → ℕ → ℕ → ℕ → ℕ → ℕ → ℕ → ℕ → DigitsRead
-judged s l a0 b0 a1 b1 a2 b2 =
-    cond (ltb 0 (l / 32)) (BadDigits reservedCode)
-    (cond (windowReserved a0 b0) (BadDigits reservedCode)
-    (cond (windowReserved a1 b1) (BadDigits reservedCode)
-    (cond (windowReserved a2 b2) (BadDigits reservedCode) (cond (windowOut a0 b0) (BadDigits valueOutOfRange)
-    (cond (windowOut a1 b1) (BadDigits valueOutOfRange)
-    (cond (windowOut a2 b2) (BadDigits valueOutOfRange)
-    (Dialled
-    (record {
-      sequence = record { 0 = s };
-      level = levelOf l;
-      current = windowOf a0 b0;
-      recent = windowOf a1 b1;
-      previous = windowOf a2 b2;
-    }))))))))
-
 unfoldable pub digitsRead : List ℕ → DigitsRead
 digitsRead p =
-    cond (eqb (length p) 8)
-    (judged (getD p 0 0) (getD p 1 0) (getD p 2 0) (getD p 3 0) (getD p 4 0) (getD p 5 0) (getD p 6 0) (getD p 7 0))
-    (BadDigits lengthWrong)
+    inOrder
+    (not (eqb (length p) 8) gives lengthWrong
+    ∷ anyReserved p gives reservedCode
+    ∷ windowsWrong (digitsIn p) gives valueOutOfRange
+    ∷ [])
+    BadDigits
+    (Dialled (digitsIn p))
 
--- Writing: a window's two octets, "and written 0"; a level above zero "is coded 0", "below -31 gets 15".
-abbrev pub windowWrong : Window → Bool
-windowWrong w = cond (ltb 19 (w .edge)) true (cond (w .on) (ltb 15 (w .code)) false)
+-- ---- Writing
+
+-- "The code of an off window is .. written 0."
+abbrev pub typeAndEdge : Window → ℕ
+typeAndEdge w = cond (w .on) (32 + w .edge) (w .edge)
+
+abbrev pub codeWhenOn : Window → ℕ
+codeWhenOn w = cond (w .on) (w .code) 0
 
 abbrev pub windowOctets : Window → List ℕ
-windowOctets w = (cond (w .on) 32 0 + w .edge) ∷ cond (w .on) (w .code) 0 ∷ []
+windowOctets w = typeAndEdge w ∷ codeWhenOn w ∷ []
 
+-- "above zero is coded 0, 0 to -31 as its magnitude, below -31 gets 15"
 abbrev pub levelCode : Coded → ℕ
 levelCode (Code magnitude) = magnitude
 levelCode Above = 0
@@ -85,8 +120,9 @@ digitsOctets d =
 
 unfoldable pub digitsMade : Digits → Made
 digitsMade d =
-    cond (levelLow (codeOf 31 (d .level))) (unmade valueOutOfRange)
-    (cond (windowWrong (d .current)) (unmade valueOutOfRange)
-    (cond (windowWrong (d .recent)) (unmade valueOutOfRange)
-    (cond (windowWrong (d .previous)) (unmade valueOutOfRange)
-    (made (digitsOctets d)))))
+    inOrder
+    (levelLow (codeOf 31 (d .level)) gives valueOutOfRange
+    ∷ windowsWrong d gives valueOutOfRange
+    ∷ [])
+    unmade
+    (made (digitsOctets d))

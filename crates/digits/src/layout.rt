@@ -5,11 +5,10 @@ use octets::Fit;
 use octets::Put;
 ghost use mathlib.Core.Path.{_≡_};
 ghost use mathlib.Core.Bool.{false};
-ghost use Prim.Native.Nat.{_+_, _≤_};
+ghost use Prim.Native.Nat.{_≤_};
 ghost use lib.ListN.{length};
-ghost use Rattle.octets.specs.Room.{written};
-ghost use Rattle.octets.specs.Made.{made, fitOf, putMade, leftMade};
-ghost use Rattle.digits.specs.Layout.{offWindow, windowOf, judged, digitsRead, windowWrong, windowOctets, levelLow, levelCode, digitsOctets, digitsMade};
+ghost use Rattle.octets.specs.Made.{fitOf, putMade, leftMade};
+ghost use Rattle.digits.specs.Layout.{offWindow, windowOf, windowReserved, anyReserved, digitsIn, windowWrong, windowsWrong, digitsRead, typeAndEdge, codeWhenOn, levelLow, levelCode, digitsOctets, digitsMade};
 ghost use Rattle.levels.specs.Level.{codeOf};
 
 // One 20 ms period: off or on with a code, and where in it the change lies, in ms.
@@ -45,69 +44,63 @@ pub enum DigitsRead {
     BadDigits(u8),
 }
 
-fn window_of(a: u8, b: u8) -> Window
-    ensures { λ r. ⌜ r ≡ windowOf a b ⌝ }
+// What a window's two octets tell: type and edge, then the code, which is ignored when off.
+fn window_of(first: u8, second: u8) -> Window
+    ensures { λ r. ⌜ r ≡ windowOf first second ⌝ }
 {
-    if a / 32 == 1 {
+    if first / 32 == 1 {
         return Window {
             on: true,
-            edge: a % 32,
-            code: b % 32,
+            edge: first % 32,
+            code: second % 32,
         };
     }
     Window {
         on: false,
-        edge: a % 32,
+        edge: first % 32,
         code: 0,
     }
 }
 
-// What eight octets tell, the reserved bits and codes before the values; each test is of several octets at once.
-fn judge(s: u8, l: u8, a0: u8, b0: u8, a1: u8, b1: u8, a2: u8, b2: u8) -> DigitsRead
-    ensures { λ r. ⌜ r ≡ judged s l a0 b0 a1 b1 a2 b2 ⌝ }
+// Whether a window's two octets have a type that is not in use, or a bit set before the code.
+fn window_reserved(first: u8, second: u8) -> bool
+    ensures { λ r. ⌜ r ≡ windowReserved first second ⌝ }
 {
-    if 31 < l | b0 | b1 | b2 {
-        return DigitsRead::BadDigits(refusal::RESERVED_CODE);
+    if 1 < first / 32 {
+        return true;
     }
-    if 63 < a0 | a1 | a2 {
-        return DigitsRead::BadDigits(refusal::RESERVED_CODE);
-    }
-    // An edge above 19 is above 31 with 12 more.
-    if 31 < (a0 % 32 + 12) | (a1 % 32 + 12) | (a2 % 32 + 12) {
-        return DigitsRead::BadDigits(refusal::VALUE_OUT_OF_RANGE);
-    }
-    let current = window_of(a0, b0);
-    let recent = window_of(a1, b1);
-    let previous = window_of(a2, b2);
-    if 15 < current.code | recent.code | previous.code {
-        return DigitsRead::BadDigits(refusal::VALUE_OUT_OF_RANGE);
-    }
-    DigitsRead::Dialled(Digits {
-        sequence: DigitCount(s),
-        level: levels::level_of(l),
-        current: current,
-        recent: recent,
-        previous: previous,
-    })
+    0 < second / 32
 }
 
-// Reads a digits payload.
-pub fn read_digits(payload: &[u8]) -> DigitsRead
-    ensures { λ r. ⌜ r ≡ digitsRead (now (payload .entry)) ⌝ }
+// Whether a reserved bit or code stands in the level or in a window.
+fn any_reserved(payload: &[u8]) -> bool
+    requires { ⌜ length (now payload) ≡ 8 ⌝ }
+    ensures { λ r. ⌜ r ≡ anyReserved (now (payload .entry)) ⌝ }
 {
-    if payload.len() == 8 {
-        return judge(
-            payload[0],
-            payload[1],
-            payload[2],
-            payload[3],
-            payload[4],
-            payload[5],
-            payload[6],
-            payload[7],
-        );
+    if 0 < payload[1] / 32 {
+        return true;
     }
-    DigitsRead::BadDigits(refusal::LENGTH_WRONG)
+    if window_reserved(payload[2], payload[3]) {
+        return true;
+    }
+    if window_reserved(payload[4], payload[5]) {
+        return true;
+    }
+    window_reserved(payload[6], payload[7])
+}
+
+// What the eight octets say.
+fn digits_in(payload: &[u8]) -> Digits
+    requires { ⌜ length (now payload) ≡ 8 ⌝ }
+    ensures { λ r. ⌜ r ≡ digitsIn (now (payload .entry)) ⌝ }
+{
+    Digits {
+        sequence: DigitCount(payload[0]),
+        level: levels::level_of(payload[1]),
+        current: window_of(payload[2], payload[3]),
+        recent: window_of(payload[4], payload[5]),
+        previous: window_of(payload[6], payload[7]),
+    }
 }
 
 // An edge, or the code of an on window, that its bits or its range do not take.
@@ -121,6 +114,39 @@ pub fn window_wrong(w: Window) -> bool
         return 15 < w.code;
     }
     false
+}
+
+// Whether one of the three windows is wrong.
+fn windows_wrong(digits: Digits) -> bool
+    ensures { λ r. ⌜ r ≡ windowsWrong digits ⌝ }
+{
+    let current = digits.current;
+    if window_wrong(current) {
+        return true;
+    }
+    let recent = digits.recent;
+    if window_wrong(recent) {
+        return true;
+    }
+    let previous = digits.previous;
+    window_wrong(previous)
+}
+
+// Reads a digits payload.
+pub fn read_digits(payload: &[u8]) -> DigitsRead
+    ensures { λ r. ⌜ r ≡ digitsRead (now (payload .entry)) ⌝ }
+{
+    if payload.len() != 8 {
+        return DigitsRead::BadDigits(refusal::LENGTH_WRONG);
+    }
+    if any_reserved(payload) {
+        return DigitsRead::BadDigits(refusal::RESERVED_CODE);
+    }
+    let digits = digits_in(payload);
+    if windows_wrong(digits) {
+        return DigitsRead::BadDigits(refusal::VALUE_OUT_OF_RANGE);
+    }
+    DigitsRead::Dialled(digits)
 }
 
 // Whether a level is below -31.
@@ -152,48 +178,45 @@ pub fn fit_digits(digits: Digits) -> Fit
     if level_low(digits.level) {
         return Fit::Unfit(refusal::VALUE_OUT_OF_RANGE);
     }
-    let current = digits.current;
-    if window_wrong(current) {
-        return Fit::Unfit(refusal::VALUE_OUT_OF_RANGE);
-    }
-    let recent = digits.recent;
-    if window_wrong(recent) {
-        return Fit::Unfit(refusal::VALUE_OUT_OF_RANGE);
-    }
-    let previous = digits.previous;
-    if window_wrong(previous) {
+    if windows_wrong(digits) {
         return Fit::Unfit(refusal::VALUE_OUT_OF_RANGE);
     }
     Fit::Octets(8)
 }
 
-// Stores the two octets of a window that fits.
-fn store_window(room: &mut [u8], at: usize, w: Window)
-    requires { ⌜ (windowWrong w ≡ false) × (at + 2 ≤ length (now room)) ⌝ }
-    ensures { λ r. ⌜ now (room .exit) ≡ written (now (room .entry)) at (windowOctets w) ⌝ }
+// A window's first octet, where its edge is in its range.
+fn type_and_edge(w: Window) -> u8
+    requires { ⌜ w .edge ≤ 19 ⌝ }
+    ensures { λ r. ⌜ r ≡ typeAndEdge w ⌝ }
 {
-    if w.on {
-        room[at] = 32 + w.edge;
-        room[at + 1] = w.code;
-    } else {
-        room[at] = w.edge;
-        room[at + 1] = 0;
-    }
+    if w.on { 32 + w.edge } else { w.edge }
 }
 
-// Stores the eight octets of a digits payload that fits.
-fn store_digits(room: &mut [u8], at: usize, digits: Digits)
-    requires { ⌜ (digitsMade digits ≡ made (digitsOctets digits)) × (at + 8 ≤ length (now room)) ⌝ }
-    ensures { λ r. ⌜ now (room .exit) ≡ written (now (room .entry)) at (digitsOctets digits) ⌝ }
+// A window's second octet.
+fn code_when_on(w: Window) -> u8
+    ensures { λ r. ⌜ r ≡ codeWhenOn w ⌝ }
 {
-    room[at] = digits.sequence.0;
-    room[at + 1] = level_code(digits.level);
+    if w.on { w.code } else { 0 }
+}
+
+// The eight octets of a digits payload that fits.
+fn octets_of(digits: Digits) -> [u8; 8]
+    requires { ⌜ windowsWrong digits ≡ false ⌝ }
+    ensures { λ r. ⌜ r ≡ digitsOctets digits ⌝ }
+{
     let current = digits.current;
-    store_window(room, at + 2, current);
     let recent = digits.recent;
-    store_window(room, at + 4, recent);
     let previous = digits.previous;
-    store_window(room, at + 6, previous);
+    [
+        digits.sequence.0,
+        level_code(digits.level),
+        type_and_edge(current),
+        code_when_on(current),
+        type_and_edge(recent),
+        code_when_on(recent),
+        type_and_edge(previous),
+        code_when_on(previous),
+    ]
 }
 
 // Writes a digits payload at a place of lent room.
@@ -203,12 +226,9 @@ pub fn put_digits(room: &mut [u8], at: usize, digits: Digits) -> Put
 {
     match fit_digits(digits) {
         Fit::Unfit(number) => Put::NotWritten(number),
-        Fit::Octets(size) => {
-            if octets::exceeds(room.len(), at, size) {
-                return Put::NotWritten(refusal::ROOM_TOO_SMALL);
-            }
-            store_digits(room, at, digits);
-            Put::Written(at + size)
+        Fit::Octets(_) => {
+            let payload = octets_of(digits);
+            octets::put_octets(room, at, &payload)
         }
     }
 }

@@ -10,7 +10,7 @@ use Rattle.provisioning.specs.Text.{walk, reading}
 use Rattle.frame.specs.Header.{told, headerAt}
 use Rattle.frame.specs.Opening.{scan, scanned, opening}
 use Rattle.payload.specs.Layout.{onVoice, onFax, onData}
-use Rattle.digits.specs.Layout.{judged, digitsRead}
+use Rattle.digits.specs.Layout.{digitsRead}
 use Rattle.lines.specs.Decimal.{digits}
 use Rattle.lines.specs.Field.{field}
 use Rattle.lines.specs.Hex.{hexValue, octetThen, decoded}
@@ -42,5 +42,5 @@ printed =
     ∷ 97 ∷ 110 ∷ 115 ∷ 119 ∷ 101 ∷ 114 ∷ 61 ∷ 49 ∷ 49 ∷ 10 ∷ []
 
 pub lists : listing input ≡ printed
-unfolding input printed listing linesListing lineListing openedListing refusedListing subsListing subListing fourFields field digits lineRead decoded octetThen hexValue textFrom lineSize reading walk syntaxLine cidBy syntaxBy mBy seqBy numberLine numberBy secondDigit thirdDigit digitOf starts hasLf wordAmong opening scanned scan headerAt told foundAt meaning packed syntaxAt onVoice onFax onData digitsRead judged
+unfolding input printed listing linesListing lineListing openedListing refusedListing subsListing subListing fourFields field digits lineRead decoded octetThen hexValue textFrom lineSize reading walk syntaxLine cidBy syntaxBy mBy seqBy numberLine numberBy secondDigit thirdDigit digitOf starts hasLf wordAmong opening scanned scan headerAt told foundAt meaning packed syntaxAt onVoice onFax onData digitsRead
 lists = refl

@@ -52,6 +52,9 @@ module _ (room : List ℕ) (at : ℕ) (m : Made) where
   pub not-written : (number : ℕ) → m ≡ unmade number → (NotWritten number ≡ putMade room at m) × (room ≡ leftMade room at m)
   not-written number e = rw e (refl, refl)
 
+  pub unfit-not-written : (number : ℕ) → fitOf m ≡ Unfit number → (NotWritten number ≡ putMade room at m) × (room ≡ leftMade room at m)
+  unfit-not-written number e = not-written number (unfit-unmade m number e)
+
   -- what is made has so many octets, and a test tells whether they exceed the room
   module _ (n : ℕ) (over : Bool) (fits : fitOf m ≡ Octets n) (test : over ≡ ltb (length room) (at + n)) where
     pub no-room : over ≡ true → (NotWritten roomTooSmall ≡ putMade room at m) × (room ≡ leftMade room at m)

@@ -1,10 +1,11 @@
 -- A test on two numbers goes one way or the other.
 use Prim.Native.Nat.{ℕ, _<_, _≤_}
 use mathlib.Core.Path.{_≡_, refl, sym, subst}
-use mathlib.Core.Bool.{Bool, true, false}
+use mathlib.Core.Bool.{Bool, true, false, cond}
 use mathlib.Core.Logic.{_⊎_, inl, inr}
 use borrow.Author.Tests.{ltb-true, ltb-false, eqb-true, eqb-false}
 use lib.Dec.{T, ltb, eqb}
+use Rattle.refusal.specs.Order.{_or_}
 
 pub lt-or-le : (m n : ℕ) → (m < n) ⊎ (n ≤ m)
 lt-or-le m n = go (ltb m n) refl
@@ -29,3 +30,21 @@ clash false p q = absurd (subst T (sym p) tt)
 pub either : {A : Type 0} {t : Bool} → (t ≡ true → A) → (t ≡ false → A) → (u : Bool) → t ≡ u → A
 either f g true e = f e
 either f g false e = g e
+
+-- one of two tests: the first holds; the first does not, and the second tells; neither holds
+pub or-first : (t u : Bool) → t ≡ true → true ≡ t or u
+or-first true u e = refl
+or-first false u e = clash false e refl
+
+pub or-second : (t u told : Bool) → t ≡ false → told ≡ u → told ≡ t or u
+or-second true u told e is = clash true refl e
+or-second false u told e is = is
+
+pub neither : (t u : Bool) → t or u ≡ false → (t ≡ false) × (u ≡ false)
+neither true u e = clash true refl e
+neither false u e = (refl, e)
+
+-- a line of a table that did not answer: its test does not hold, and the lines after it answered
+pub past : {A : Type 0} (t : Bool) (refused rest answer : A) → (refused ≡ answer → ⊥) → cond t refused rest ≡ answer → (t ≡ false) × (rest ≡ answer)
+past true refused rest answer not-it e = absurd (not-it e)
+past false refused rest answer not-it e = (refl, e)

@@ -1,12 +1,12 @@
 -- Copies into room, and two copies one behind the other.
 use Prim.Native.Nat.{ℕ, _+_, _<_, _≤_}
 use mathlib.Core.Path.{_≡_, sym, ap, ap₂, _∙_}
-use mathlib.Core.List.{List, [], _∷_, _++_, append-assoc}
-use native.Mathlib.Nat.{add-assoc}
+use mathlib.Core.List.{List, [], _∷_, _++_, append-assoc, append-nil}
+use native.Mathlib.Nat.{add-assoc, zero-add}
 use native.Mathlib.Numerals.{add-one, add-two}
 use native.Mathlib.Omega.{arith}
 use borrow.Author.Tests.{lt-ltb, le-ltb}
-use lib.ListN.{length, getD, set, take, drop, length-append, length-drop}
+use lib.ListN.{length, getD, set, take, drop, length-append, length-drop, drop-of-length-le}
 use lib.Seq.{sets-eq, paste, paste-suc, length-paste, take-all, take-at, drop-at, drop-drop, length-take-le}
 use Rattle.refusal.specs.Numbers.{roomTooSmall}
 use Rattle.octets.specs.declared.Put.{Put}
@@ -27,6 +27,19 @@ module _ (room₀ from room : List ℕ) (at i : ℕ) (fits : at + length from �
       let whole : i ≡ length from = omega arith in
       is ∙ ap (λ (k : ℕ). take at room₀ ++ take k from ++ drop (at + k) room₀) whole
       ∙ ap (λ (l : List ℕ). take at room₀ ++ l ++ drop (at + length from) room₀) (take-all (length from) from (omega arith))
+
+-- an array that is filled from its start, of which i octets stand
+module _ (array₀ from array : List ℕ) (i : ℕ) (as-many : length array₀ ≡ length from) (within : i ≤ length from) (is : array ≡ paste array₀ 0 from i) where
+  pub next-filled : i < length from → set array i (getD from i 0) ≡ paste array₀ 0 from (i + 1)
+  next-filled more =
+      ap (λ (k : ℕ). set array k (getD from i 0)) (sym (zero-add i)) ∙ turn array₀ from array 0 i (omega arith) within is more
+
+  pub all-filled : length from ≤ i → array ≡ from
+  all-filled all =
+      let none : length array₀ ≤ 0 + length from = omega arith in
+      done array₀ from array 0 i (omega arith) within is all
+      ∙ ap (λ (l : List ℕ). from ++ l) (drop-of-length-le array₀ none)
+      ∙ append-nil from
 
 pub length-written : (room octets : List ℕ) (at : ℕ) → at + length octets ≤ length room → length (written room at octets) ≡ length room
 length-written room octets at fits =

@@ -1,11 +1,12 @@
 -- Samples in the halves of octets: two to an octet, the earlier in the low half.
 use Prim.Native.Nat.{ℕ, zero, suc, _+_, _/_, _%_, _<_, _≤_}
 use mathlib.Core.Path.{_≡_, refl, sym, ap, _∙_}
-use mathlib.Core.List.{List, [], _∷_, append-nil}
-use native.Mathlib.Nat.{zero-add, not-suc-le-zero, le-of-suc-le-suc}
+use mathlib.Core.List.{List, [], _∷_}
+use native.Mathlib.Nat.{not-suc-le-zero, le-of-suc-le-suc}
 use native.Mathlib.Omega.{arith}
-use lib.ListN.{length, getD, take, drop, set, replicate, length-drop}
-use lib.Seq.{paste, paste-zero, paste-suc, take-all, getD-drop}
+use lib.ListN.{length, getD, drop, set, replicate, length-drop}
+use lib.Seq.{paste, paste-zero, getD-drop}
+use Rattle.octets.proofs.Writes as writes
 use Rattle.signalling.specs.Layout.{halves}
 
 pub length-halves : (l : List ℕ) → length (halves l) ≡ length l + length l
@@ -21,12 +22,12 @@ low-half (o ∷ os) (suc i) h =
     let two : suc i + suc i ≡ suc (suc (i + i)) = omega arith in
     rw two (low-half os i (le-of-suc-le-suc h))
 
-pub high-half : (l : List ℕ) (i : ℕ) → i < length l → getD (halves l) (suc (i + i)) 0 ≡ getD l i 0 / 16
+pub high-half : (l : List ℕ) (i : ℕ) → i < length l → getD (halves l) (i + i + 1) 0 ≡ getD l i 0 / 16
 unfolding halves
 high-half [] i h = absurd (not-suc-le-zero h)
 high-half (o ∷ os) zero h = refl
 high-half (o ∷ os) (suc i) h =
-    let two : suc i + suc i ≡ suc (suc (i + i)) = omega arith in
+    let two : suc i + suc i + 1 ≡ suc (suc (i + i + 1)) = omega arith in
     rw two (high-half os i (le-of-suc-le-suc h))
 
 -- the samples of a payload, of which those of i octets are taken
@@ -37,14 +38,17 @@ module _ (payload : List ℕ) (sixteen : length payload ≡ 16) where
   abbrev pub filled : ℕ → List ℕ
   filled n = paste (replicate 30 0) 0 target n
 
-  many : length target ≡ 30
-  many = length-halves (drop 1 payload) ∙ rw (length-drop 1 payload, sixteen)
-
   octets-left : length (drop 1 payload) ≡ 15
   octets-left = length-drop 1 payload ∙ rw sixteen
 
+  many : length target ≡ 30
+  many = length-halves (drop 1 payload) ∙ rw octets-left
+
   pub begins : replicate 30 0 ≡ filled 0
   begins = paste-zero (replicate 30 0) 0 target
+
+  one-more : (samples : List ℕ) (k : ℕ) → k < 30 → samples ≡ filled k → set samples k (getD target k 0) ≡ filled (k + 1)
+  one-more samples k less is = writes.next-filled (replicate 30 0) target samples k (sym many) (omega (arith, many)) is (omega (arith, many))
 
   pub turn :
       (samples : List ℕ) (i : ℕ)
@@ -54,21 +58,13 @@ module _ (payload : List ℕ) (sixteen : length payload ≡ 16) where
       ≡ filled (i + 1 + (i + 1))
   turn samples i less is =
       let left = octets-left in
-      let whole = many in
       let octet : getD (drop 1 payload) i 0 ≡ getD payload (i + 1) 0 = getD-drop 1 payload i 0 ∙ ap (λ (k : ℕ). getD payload k 0) (omega arith) in
       let low : getD target (i + i) 0 ≡ getD payload (i + 1) 0 % 16 = low-half (drop 1 payload) i (omega arith) ∙ ap (λ (k : ℕ). k % 16) octet in
-      let high : getD target (suc (i + i)) 0 ≡ getD payload (i + 1) 0 / 16 = high-half (drop 1 payload) i (omega arith) ∙ ap (λ (k : ℕ). k / 16) octet in
-      let next : i + i + 1 ≡ suc (i + i) = omega arith in
-      let end : i + 1 + (i + 1) ≡ suc (suc (i + i)) = omega arith in
-      let first : set (filled (i + i)) (i + i) (getD target (i + i) 0) ≡ filled (suc (i + i)) =
-      ap (λ (k : ℕ). set (filled (i + i)) k (getD target (i + i) 0)) (sym (zero-add (i + i))) ∙ paste-suc (replicate 30 0) 0 target (i + i) 0 (omega arith) (omega arith)
-      in
-      let second : set (filled (suc (i + i))) (suc (i + i)) (getD target (suc (i + i)) 0) ≡ filled (suc (suc (i + i))) =
-      ap (λ (k : ℕ). set (filled (suc (i + i))) k (getD target (suc (i + i)) 0)) (sym (zero-add (suc (i + i)))) ∙ paste-suc (replicate 30 0) 0 target (suc (i + i)) 0 (omega arith) (omega arith)
-      in
-      rw (is, ← low, ← high, next, end, first) second
+      let high : getD target (i + i + 1) 0 ≡ getD payload (i + 1) 0 / 16 = high-half (drop 1 payload) i (omega arith) ∙ ap (λ (k : ℕ). k / 16) octet in
+      let end : i + 1 + (i + 1) ≡ i + i + 1 + 1 = omega arith in
+      let first = one-more samples (i + i) (omega arith) is in
+      rw (← low, ← high, end, first) (one-more (filled (i + i + 1)) (i + i + 1) (omega arith) refl)
 
   pub done : (samples : List ℕ) (i : ℕ) → i ≤ 15 → 15 ≤ i → samples ≡ filled (i + i) → samples ≡ target
   done samples i most least is =
-      let thirty : i + i ≡ 30 = omega arith in
-      is ∙ ap filled thirty ∙ append-nil (take 30 target) ∙ take-all 30 target (omega (arith, many))
+      writes.all-filled (replicate 30 0) target samples (i + i) (sym many) (omega (arith, many)) is (omega (arith, many))

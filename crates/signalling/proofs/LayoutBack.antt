@@ -2,24 +2,24 @@
 use Prim.Native.Nat.{ℕ, zero, suc, _+_, _-_, _*_, _/_, _%_, _<_, _≤_}
 use mathlib.Core.Path.{_≡_, refl, sym, ap, ap₂, subst, _∙_}
 use mathlib.Core.List.{List, [], _∷_}
-use mathlib.Core.Bool.{Bool, true, false, cond}
+use mathlib.Core.Bool.{Bool, true, false, not, cond}
 use mathlib.Core.Logic.{_⊎_, ⊎-elim}
 use native.Mathlib.Nat.{zero-add, not-suc-le-zero, le-of-suc-le-suc, add-zero}
 use native.Mathlib.Omega.{arith}
-use borrow.Author.Tests.{lt-ltb, ltb-true, eq-eqb, ne-eqb}
-use lib.Dec.{eqb}
-use lib.ListN.{length, getD, set, take, drop}
+use borrow.Author.Tests.{lt-ltb, ltb-true, ltb-false, eq-eqb, ne-eqb, not-false}
+use lib.Dec.{ltb, eqb}
+use lib.ListN.{length, getD, set, take, drop, replicate}
 use lib.Seq.{paste, drop-cons, ext-getD, take-all}
-use Rattle.octets.specs.Room.{written}
 use Rattle.octets.proofs.Writes as writes
-use Rattle.octets.proofs.Order.{lt-or-le, eq-or-ne, either}
-use Rattle.octets.proofs.MadeBack.{same-made, never-made}
+use Rattle.octets.proofs.Order.{eq-or-ne, past}
+use Rattle.octets.proofs.MadeBack.{octets-made, same-made, never-made}
 use Rattle.octets.specs.Octets.{Octets}
-use Rattle.octets.specs.Made.{made}
+use Rattle.octets.specs.Made.{made, fitOf}
+use Rattle.octets.specs.declared.Fit.the-variants as fit
 use Rattle.refusal.specs.Numbers.{sound, lengthWrong}
 use Rattle.signalling.specs.declared.layout.Signalling.{Signalling}
 use Rattle.signalling.specs.declared.layout.SignallingRead.{SignallingRead}
-use Rattle.signalling.specs.Layout.{halves, nothing, allAllowed, pairAt, pairs, firstOctet, signallingMade}
+use Rattle.signalling.specs.Layout.{halves, signallingIn, nothing, allAllowed, pairAt, pairs, firstOctet, signallingMade}
 use Rattle.signalling.specs.Claims.{SignallingReadsBack, SignallingMadeAgain}
 use Rattle.signalling.proofs.LayoutCases as cases
 use Rattle.signalling.proofs.Halves as halves-of
@@ -30,13 +30,14 @@ pub record Fitting (s : Signalling) : Type 0 where
   pub fair : allAllowed 30 0 (s .samples) ≡ true
 
 pub fitting : (s : Signalling) (octets : List ℕ) → signallingMade s ≡ made octets → Fitting s
+unfolding signallingMade
 fitting s octets e =
-    ⊎-elim (λ over. never-made _ _ octets (cases.beyond s over) e)
-    (λ within.
-    either (λ fair. record { within = within; fair = fair }) (λ wrong. never-made _ _ octets (cases.not-allowed s within wrong) e)
-    (allAllowed 30 0 (s .samples))
-    refl)
-    (lt-or-le 127 (s .sequence .0))
+    let sequence = past (ltb 127 (s .sequence .0)) _ _ _ (never-made _ _ octets refl) e in
+    let samples = past (not (allAllowed 30 0 (s .samples))) _ _ _ (never-made _ _ octets refl) (sequence .1) in
+    record { within = ltb-false 127 (s .sequence .0) (sequence .0); fair = not-false _ (samples .0) }
+
+pub fits : (s : Signalling) (n : ℕ) → fitOf (signallingMade s) ≡ fit.Octets n → Fitting s
+fits s n e = let m = octets-made (signallingMade s) n e in fitting s (m .0) (m .1)
 
 pub made-octets : (s : Signalling) → Fitting s → signallingMade s ≡ made (firstOctet s ∷ pairs 15 0 (s .samples))
 made-octets s f = cases.all-right s (f .within) (f .fair)
@@ -54,26 +55,18 @@ pair-at (suc n) k samples (suc j) h =
     let same : suc k + j ≡ k + suc j = omega arith in
     pair-at n (suc k) samples j (le-of-suc-le-suc h) ∙ ap (pairAt samples) same
 
--- the octets of the pairs, of which i are stored
-module _ (samples room₀ room : List ℕ) (at i : ℕ) (fits : at + 15 ≤ length room₀) (within : i ≤ 15)
-    (is : room ≡ paste room₀ at (pairs 15 0 samples) i) where
-  whole-fits : at + length (pairs 15 0 samples) ≤ length room₀
-  whole-fits = omega (arith, length-pairs 15 0 samples)
+-- the octets of the pairs, of which i stand
+module _ (samples octets : List ℕ) (i : ℕ) (is : octets ≡ paste (replicate 15 0) 0 (pairs 15 0 samples) i) where
+  pub pair-stored : i < 15 → set octets i (pairAt samples i) ≡ paste (replicate 15 0) 0 (pairs 15 0 samples) (i + 1)
+  pair-stored less =
+      let many = length-pairs 15 0 samples in
+      ap (set octets i) (sym (pair-at 15 0 samples i less ∙ ap (pairAt samples) (zero-add i)))
+      ∙ writes.next-filled (replicate 15 0) (pairs 15 0 samples) octets i (sym many) (omega arith) is (omega arith)
 
-  of-them : i ≤ length (pairs 15 0 samples)
-  of-them = omega (arith, length-pairs 15 0 samples)
-
-  pub same-room : length room ≡ length room₀
-  same-room = writes.same-length room₀ (pairs 15 0 samples) room at i whole-fits of-them is
-
-  pub next-stored : i < 15 → set room (at + i) (pairAt samples i) ≡ paste room₀ at (pairs 15 0 samples) (i + 1)
-  next-stored less =
-      let value : getD (pairs 15 0 samples) i 0 ≡ pairAt samples i = pair-at 15 0 samples i less ∙ ap (pairAt samples) (zero-add i) in
-      ap (set room (at + i)) (sym value)
-      ∙ writes.turn room₀ (pairs 15 0 samples) room at i whole-fits of-them is (omega (arith, length-pairs 15 0 samples))
-
-  pub all-stored : 15 ≤ i → room ≡ written room₀ at (pairs 15 0 samples)
-  all-stored all = writes.done room₀ (pairs 15 0 samples) room at i whole-fits of-them is (omega (arith, length-pairs 15 0 samples))
+  pub all-paired : i ≤ 15 → 15 ≤ i → octets ≡ pairs 15 0 samples
+  all-paired most least =
+      let many = length-pairs 15 0 samples in
+      writes.all-filled (replicate 15 0) (pairs 15 0 samples) octets i (sym many) (omega arith) is (omega arith)
 
 pub all-small : (samples : List ℕ) → allAllowed 30 0 samples ≡ true → (j : ℕ) → j < 30 → getD samples j 0 < 16
 all-small samples fair j h = rw (zero-add j) at (ltb-true (getD samples (0 + j) 0) 16 (each-passes (allowed-looks samples) 30 0 fair j h))
@@ -99,9 +92,11 @@ module _ (samples : List ℕ) (small : (j : ℕ) → j < 30 → getD samples j 0
       ∙ ap (take (suc (suc (n + n)))) (drop-cons samples (k + k) 0 (omega arith))
       ∙ ap (λ (l : List ℕ). getD samples (k + k) 0 ∷ take (suc (n + n)) l) (drop-cons samples (suc (k + k)) 0 (omega arith)))
 
-alarm-back : (alarm : Bool) (sequence : ℕ) → sequence ≤ 127 → (eqb ((cond alarm 128 0 + sequence) / 128) 1 ≡ alarm) × ((cond alarm 128 0 + sequence) % 128 ≡ sequence)
+alarm-back : (alarm : Bool) (sequence : ℕ) → sequence ≤ 127
+    → let o = cond alarm (128 + sequence) sequence in
+    (eqb (o / 128) 1 ≡ alarm) × (o % 128 ≡ sequence)
 alarm-back true sequence h = let one : (128 + sequence) / 128 ≡ 1 = omega arith in (rw one, omega arith)
-alarm-back false sequence h = let none : (0 + sequence) / 128 ≡ 0 = omega arith in (rw none, omega arith)
+alarm-back false sequence h = let none : sequence / 128 ≡ 0 = omega arith in (rw none, omega arith)
 
 pub signalling-reads-back : SignallingReadsBack
 signalling-reads-back s octets whole e =
@@ -130,37 +125,33 @@ halves-pairs l whole =
     ext-getD 0 (pairs 15 0 (halves l)) l (many ∙ sym whole)
     (λ i h.
     let less : i < length l = omega arith in
-    let next : i + i + 1 ≡ suc (i + i) = omega arith in
     pair-at 15 0 (halves l) i (omega arith)
     ∙ ap (pairAt (halves l)) (zero-add i)
-    ∙ ap₂ (λ (x y : ℕ). x + y * 16) (halves-of.low-half l i less) (ap (λ (j : ℕ). getD (halves l) j 0) next ∙ halves-of.high-half l i less)
+    ∙ ap₂ (λ (x y : ℕ). x + y * 16) (halves-of.low-half l i less) (halves-of.high-half l i less)
     ∙ omega arith)
 
 never : {A : Type 0} (r : SignallingRead) (x y : Signalling) → r ≡ record { number = lengthWrong; signalling = x } → r ≡ record { number = sound; signalling = y } → A
 never r x y p q = let z : _≡_ {A = ℕ} 13 0 = ap (λ (s : SignallingRead). s .number) (sym p ∙ q) in absurd (omega arith)
 
+-- the first octet again
+first-again : (x : ℕ) → x < 256 → cond (eqb (x / 128) 1) (128 + x % 128) (x % 128) ≡ x
+first-again x h =
+    ⊎-elim (λ (one : x / 128 ≡ 1). simp (eq-eqb (x / 128) 1 one) (omega arith))
+    (λ (none : x / 128 ≡ 1 → ⊥). simp (ne-eqb (x / 128) 1 none) (low x h none))
+    (eq-or-ne (x / 128) 1)
+  where
+    low : (x : ℕ) → x < 256 → (x / 128 ≡ 1 → ⊥) → x % 128 ≡ x
+    low x h none = ⊎-elim (λ (z : x / 128 ≡ 0). omega arith) (λ nz. absurd (none (omega arith))) (eq-or-ne (x / 128) 0)
+
 again : (octets : List ℕ) → Octets octets → length octets ≡ 16
-    → (length (halves (drop 1 octets)) ≡ 30)
-    × (signallingMade (record { alarm = eqb (getD octets 0 0 / 128) 1; sequence = record { 0 = getD octets 0 0 % 128 }; samples = halves (drop 1 octets) }) ≡ made octets)
+    → (length (halves (drop 1 octets)) ≡ 30) × (signallingMade (signallingIn octets) ≡ made octets)
 again [] o whole = absurd (omega arith)
 again (x ∷ l) o whole =
     let rest : length l ≡ 15 = omega arith in
-    let octet : x < 256 = o 0 in
-    let s : Signalling = record { alarm = eqb (x / 128) 1; sequence = record { 0 = x % 128 }; samples = halves l } in
-    let f : Fitting s = record { within = omega arith; fair = small-allowed 30 0 (halves l) (half-small l (λ i. o (suc i))) } in (
+    let f : Fitting (signallingIn (x ∷ l)) = record { within = omega arith; fair = small-allowed 30 0 (halves l) (half-small l (λ i. o (suc i))) } in (
       halves-of.length-halves l ∙ rw rest,
-      made-octets s f ∙ ap₂ (λ (a : ℕ) (b : List ℕ). made (a ∷ b)) (first-again x octet) (halves-pairs l rest),
+      made-octets (signallingIn (x ∷ l)) f ∙ ap₂ (λ (a : ℕ) (b : List ℕ). made (a ∷ b)) (first-again x (o 0)) (halves-pairs l rest),
     )
-  where
-    first-again : (x : ℕ) → x < 256 → cond (eqb (x / 128) 1) 128 0 + x % 128 ≡ x
-    first-again x h =
-        ⊎-elim (λ (one : x / 128 ≡ 1). simp (eq-eqb (x / 128) 1 one) (omega arith))
-        (λ (none : x / 128 ≡ 1 → ⊥). low x h none)
-        (eq-or-ne (x / 128) 1)
-      where
-        low : (x : ℕ) → x < 256 → (x / 128 ≡ 1 → ⊥) → cond (eqb (x / 128) 1) 128 0 + x % 128 ≡ x
-        low x h none =
-            simp (ne-eqb (x / 128) 1 none) (⊎-elim (λ (z : x / 128 ≡ 0). omega arith) (λ nz. absurd (none (omega arith))) (eq-or-ne (x / 128) 0))
 
 pub signalling-made-again : SignallingMadeAgain
 signalling-made-again s octets o e =

@@ -1,29 +1,21 @@
 -- What `signallingRead` and `signallingMade` give in each of their cases.
-use Prim.Native.Nat.{ℕ, _/_, _%_, _<_, _≤_}
+use Prim.Native.Nat.{ℕ, _<_, _≤_}
 use mathlib.Core.Path.{_≡_}
 use mathlib.Core.List.{List, _∷_}
 use mathlib.Core.Bool.{true, false}
 use borrow.Author.Tests.{lt-ltb, le-ltb, eq-eqb, ne-eqb}
-use lib.Dec.{eqb}
-use lib.ListN.{length, getD, drop}
+use lib.ListN.{length}
 use Rattle.refusal.specs.Numbers.{sound, lengthWrong, valueOutOfRange}
 use Rattle.octets.specs.Made.{made, unmade}
 use Rattle.signalling.specs.declared.layout.Signalling.{Signalling}
-use Rattle.signalling.specs.Layout.{halves, nothing, signallingRead, allAllowed, firstOctet, pairs, signallingMade}
+use Rattle.signalling.specs.Layout.{signallingIn, nothing, signallingRead, allAllowed, firstOctet, pairs, signallingMade}
 
 module _ (p : List ℕ) where
   pub wrong : (length p ≡ 16 → ⊥) → signallingRead p ≡ record { number = lengthWrong; signalling = nothing }
   unfolding signallingRead
   wrong h = simp (ne-eqb (length p) 16 h)
 
-  pub right :
-      length p ≡ 16
-      → signallingRead p
-      ≡ record {
-        number = sound;
-        signalling =
-            record { alarm = eqb (getD p 0 0 / 128) 1; sequence = record { 0 = getD p 0 0 % 128 }; samples = halves (drop 1 p) };
-      }
+  pub right : length p ≡ 16 → signallingRead p ≡ record { number = sound; signalling = signallingIn p }
   unfolding signallingRead
   right h = simp (eq-eqb (length p) 16 h)
 

@@ -4,11 +4,10 @@ use octets::Fit;
 use octets::Put;
 ghost use mathlib.Core.Path.{_≡_};
 ghost use lib.ListN.{length, drop};
-ghost use mathlib.Core.Bool.{true, cond};
-ghost use Prim.Native.Nat.{_+_, _≤_};
-ghost use Rattle.octets.specs.Room.{written};
+ghost use mathlib.Core.Bool.{true};
+ghost use Prim.Native.Nat.{_≤_};
 ghost use Rattle.octets.specs.Made.{fitOf, putMade, leftMade};
-ghost use Rattle.signalling.specs.Layout.{halves, allowed, signallingRead, allAllowed, pairs, signallingMade};
+ghost use Rattle.signalling.specs.Layout.{halves, allowed, signallingRead, allAllowed, firstOctet, pairs, signallingMade};
 
 // A signalling payload: the alarm bit, and 30 samples of four bits, oldest first.
 pub struct Signalling {
@@ -71,12 +70,12 @@ pub fn allowed(sample: u8) -> bool
     sample < 16
 }
 
-// Whether all samples are allowed.
-fn all_allowed(samples: &[u8]) -> bool
-    ensures { λ r. ⌜ r ≡ allAllowed (length (now (samples .entry))) 0 (now (samples .entry)) ⌝ }
+// Whether all thirty samples are allowed.
+fn all_allowed(samples: [u8; 30]) -> bool
+    ensures { λ r. ⌜ r ≡ allAllowed 30 0 samples ⌝ }
 {
     let mut i: usize = 0;
-    while i < samples.len() {
+    while i < 30 {
         let sample = samples[i];
         if !allowed(sample) {
             return false;
@@ -94,32 +93,39 @@ pub fn fit_signalling(signalling: Signalling) -> Fit
         return Fit::Unfit(refusal::VALUE_OUT_OF_RANGE);
     }
     let samples = signalling.samples;
-    if all_allowed(&samples) {
-        return Fit::Octets(16);
+    if !all_allowed(samples) {
+        return Fit::Unfit(refusal::VALUE_OUT_OF_RANGE);
     }
-    Fit::Unfit(refusal::VALUE_OUT_OF_RANGE)
+    Fit::Octets(16)
 }
 
 // The first octet; of the sequence there are seven bits.
-fn first_octet(alarm: bool, sequence: u8) -> u8
-    requires { ⌜ sequence ≤ 127 ⌝ }
-    ensures { λ r. ⌜ r ≡ cond alarm 128 0 + sequence ⌝ }
+fn first_octet(signalling: Signalling) -> u8
+    requires { ⌜ signalling .sequence .0 ≤ 127 ⌝ }
+    ensures { λ r. ⌜ r ≡ firstOctet signalling ⌝ }
 {
-    if alarm { 128 + sequence } else { sequence }
+    let sequence = signalling.sequence.0;
+    if signalling.alarm {
+        128 + sequence
+    } else {
+        sequence
+    }
 }
 
-// Stores the fifteen octets of thirty allowed samples.
-fn store_samples(room: &mut [u8], at: usize, samples: &[u8])
-    requires { ⌜ (length (now samples) ≡ 30) × (allAllowed 30 0 (now samples) ≡ true) × (at + 15 ≤ length (now room)) ⌝ }
-    ensures { λ r. ⌜ now (room .exit) ≡ written (now (room .entry)) at (pairs 15 0 (now (samples .entry))) ⌝ }
+// The fifteen octets of thirty allowed samples.
+fn pairs_of(samples: [u8; 30]) -> [u8; 15]
+    requires { ⌜ allAllowed 30 0 samples ≡ true ⌝ }
+    ensures { λ r. ⌜ r ≡ pairs 15 0 samples ⌝ }
 {
+    let mut octets = [0u8; 15];
     let mut i: usize = 0;
     while i < 15 {
         let low = samples[i + i];
         let high = samples[i + i + 1];
-        room[at + i] = low + high * 16;
+        octets[i] = low + high * 16;
         i += 1;
     }
+    octets
 }
 
 // Writes a signalling payload at a place of lent room.
@@ -129,14 +135,11 @@ pub fn put_signalling(room: &mut [u8], at: usize, signalling: Signalling) -> Put
 {
     match fit_signalling(signalling) {
         Fit::Unfit(number) => Put::NotWritten(number),
-        Fit::Octets(size) => {
-            if octets::exceeds(room.len(), at, size) {
-                return Put::NotWritten(refusal::ROOM_TOO_SMALL);
-            }
-            room[at] = first_octet(signalling.alarm, signalling.sequence.0);
+        Fit::Octets(_) => {
+            let first = [first_octet(signalling)];
             let samples = signalling.samples;
-            store_samples(room, at + 1, &samples);
-            Put::Written(at + size)
+            let pairs = pairs_of(samples);
+            octets::put_both(room, at, &first, &pairs)
         }
     }
 }

@@ -1,33 +1,25 @@
--- `counts::round` meets its contract: a mask of k ones leaves the remainder by 2 ^ k.
-use Prim.Native.Nat.{ℕ, _-_, _%_, _^_}
-use mathlib.Core.Path.{_≡_, sym, ap, _∙_}
+-- `counts::round` meets its contract: a mask of so many ones leaves the remainder.
+use Prim.Native.Nat.{ℕ, _*_, _%_, _^_, _<_}
+use mathlib.Core.Path.{_≡_, _∙_}
+use native.Mathlib.Nat.{one-mul}
+use native.Mathlib.Omega.{arith}
+use lib.Bits.{and-mask}
+use lib.Pow.{pow-pos, shl-exact}
 use borrow.Author.Needs.{needs}
-use lib.Bits.{bitAnd, and-mask}
-use Rattle.counts.specs.declared.Width.{Width}
-use Rattle.counts.specs.Round.{bitsOf}
 use Rattle.counts.proofs.round.Statement.{statement}
 use Rattle.counts.proofs.round.Tie as tie
 
-masked : (n : ℕ) (told width : Width) → width ≡ told → bitAnd n (2 ^ bitsOf told - 1) ≡ n % 2 ^ bitsOf width
-masked n told width e = and-mask n (bitsOf told) ∙ ap (λ (w : Width). n % 2 ^ bitsOf w) (sym e)
+shifted : (bits : ℕ) → bits < 16 → 1 * 2 ^ bits % 2 ^ 16 ≡ 2 ^ bits
+shifted bits narrow = shl-exact 1 bits 16 (omega arith) (omega arith) ∙ one-mul (2 ^ bits)
 
-enum-told : tie.Need-enum-told
-enum-told c = search needs
+shl-result : tie.Need-shl-result
+shl-result c = search needs
 
-enum-told-2 : tie.Need-enum-told-2
-enum-told-2 c = search needs
-
-enum-told-3 : tie.Need-enum-told-3
-enum-told-3 c = search needs
+sub-result : tie.Need-sub-result
+sub-result c = let bits = c .args .bits in rw (shifted bits (c .pre)) (pow-pos bits)
 
 returns : tie.Need-returns
-returns c = masked _ _ _ (c .enum-told .given .1)
-
-returns-2 : tie.Need-returns-2
-returns-2 c = masked _ _ _ (c .enum-told2 .given .1)
-
-returns-3 : tie.Need-returns-3
-returns-3 c = masked _ _ _ (c .enum-told3 .given .1)
+returns c = let bits = c .args .bits in rw (shifted bits (c .pre)) (and-mask (c .args .n) bits)
 
 pub round-spec : {M : Type 1} → statement M
-round-spec = tie.close (tie.spec enum-told enum-told-2 enum-told-3 returns returns-2 returns-3)
+round-spec = tie.close (tie.spec shl-result sub-result returns)

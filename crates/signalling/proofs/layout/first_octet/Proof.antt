@@ -1,6 +1,4 @@
 -- `signalling::layout::first_octet` meets its contract.
-use native.Mathlib.Nat.{zero-add}
-use mathlib.Core.Path.{sym}
 use borrow.Author.Needs.{needs}
 use Rattle.signalling.proofs.layout.first_octet.Statement.{statement}
 use Rattle.signalling.proofs.layout.first_octet.Tie as tie
@@ -12,7 +10,7 @@ returns : tie.Need-returns
 returns c = simp (c .if1 .taken)
 
 returns-2 : tie.Need-returns-2
-returns-2 c = simp (c .if1 .left) (sym (zero-add (c .before .args .sequence)))
+returns-2 c = search needs
 
 pub first-octet-spec : {M : Type 1} → statement M
 first-octet-spec = tie.close (tie.spec add-result returns returns-2)
