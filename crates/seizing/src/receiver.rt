@@ -51,10 +51,9 @@ fn fill_of(receiver: Receiver, step: u8) -> u8
     ensures { λ r. ⌜ r ≡ fillOf receiver step ⌝ }
 {
     if replay::fill_count(step) == 0 {
-        0
-    } else {
-        receiver.tail
+        return 0;
     }
+    receiver.tail
 }
 
 // The newest periods of a payload, oldest first, from place 0 on.
