@@ -49,7 +49,7 @@ pub made-octets : (d : Digits) → Fitting d → digitsMade d ≡ made (digitsOc
 made-octets d f = cases.all-right d (f .fair) (none-wrong d f)
 
 -- a window in its range
-pub edge-small : (w : Window) → windowWrong w ≡ false → w .edge ≤ 19
+edge-small : (w : Window) → windowWrong w ≡ false → w .edge ≤ 19
 edge-small w e = ltb-false 19 (w .edge) (neither _ _ e .0)
 
 code-small : (edge code : ℕ) → windowWrong (record { on = true; edge = edge; code = code }) ≡ false → code ≤ 15

@@ -1,5 +1,5 @@
 -- The claims of specs/Claims.antt.
-use Prim.Native.Nat.{ℕ, zero, suc, _%_, _≤_, _<_}
+use Prim.Native.Nat.{ℕ, zero, suc, _≤_, _<_}
 use mathlib.Core.Path.{_≡_, refl, sym, ap, _∙_}
 use mathlib.Core.Logic.{⊎-elim}
 use native.Mathlib.Nat.{mod-eq-of-lt}
@@ -10,7 +10,7 @@ use lib.Signed.{_≤ℤ_}
 use Rattle.octets.proofs.Order.{lt-or-le}
 use Rattle.levels.specs.declared.Coded.{Coded}
 use Rattle.levels.specs.declared.Coded.the-variants.{Code, Above, Below}
-use Rattle.levels.specs.Level.{codeOf}
+use Rattle.levels.specs.Level.{magnitudeIn, codeOf}
 use Rattle.levels.specs.Claims.{NeverAbove, CodeOfLevel, LevelOfCode}
 
 down : (n : ℕ) → negℤ (pos n) ≤ℤ pos 0
@@ -18,7 +18,7 @@ down zero = record { le = tt }
 down (suc n) = record { le = tt }
 
 pub never-above : NeverAbove
-never-above octet = down (octet % 64)
+never-above octet = down (magnitudeIn octet)
 
 coded : (most n : ℕ) → n ≤ most → codeOf most (negℤ (pos n)) ≡ Code n
 coded most zero h = refl

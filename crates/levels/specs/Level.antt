@@ -7,8 +7,11 @@ use Rattle.levels.specs.declared.Coded.{Coded}
 use Rattle.levels.specs.declared.Coded.the-variants.{Code, Above, Below}
 
 -- "six bits of noise level, handed out as 0 to -63 dBm0"
+abbrev pub magnitudeIn : ℕ → ℕ
+magnitudeIn octet = octet % 64
+
 abbrev pub levelOf : ℕ → ℤ
-levelOf octet = negℤ (pos (octet % 64))
+levelOf octet = negℤ (pos (magnitudeIn octet))
 
 -- "0 to -31 as its magnitude", where 31 is the most; a level above zero and one below the least have no code of their own.
 abbrev pub codeOf : ℕ → ℤ → Coded
