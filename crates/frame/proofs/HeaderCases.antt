@@ -26,14 +26,20 @@ module _ (at o a b n : ℕ) where
     module _ (free : 4 ≤ cidOf o a) where
       pub spare-set : (spare a ≡ 0 → ⊥) → told at o a b n ≡ Bad spareBitSet
       unfolding told
-      spare-set h = simp (le-ltb n (size o) whole, le-ltb (cidOf o a) 4 free, ne-eqb (spare a) 0 h)
+      spare-set h =
+          let set : 0 < spare a = omega (arith, h) in
+          simp (le-ltb n (size o) whole, le-ltb (cidOf o a) 4 free, lt-ltb 0 (spare a) set)
 
       module _ (clear : spare a ≡ 0) where
+        none-set : spare a ≤ 0
+        none-set = omega arith
+
         pub last-one :
             li o ≡ 0
             → told at o a b n ≡ Sub (record { cid = cidOf o a; ptype = payloadType a; start = at + size o; len = n - size o; last = true })
         unfolding told
-        last-one h = simp (le-ltb n (size o) whole, le-ltb (cidOf o a) 4 free, eq-eqb (spare a) 0 clear, eq-eqb (li o) 0 h)
+        last-one h =
+            simp (le-ltb n (size o) whole, le-ltb (cidOf o a) 4 free, le-ltb 0 (spare a) none-set, eq-eqb (li o) 0 h)
 
         module _ (more : li o ≡ 0 → ⊥) where
           -- past the tests for 3, 4 and 5, where LI is 1
@@ -43,7 +49,8 @@ module _ (at o a b n : ℕ) where
               (cond (eqb (n - size o) b) (Bad lastWithLength)
               (Sub (record { cid = cidOf o a; ptype = payloadType a; start = at + size o; len = b; last = false })))
           unfolding told
-          on = simp (le-ltb n (size o) whole, le-ltb (cidOf o a) 4 free, eq-eqb (spare a) 0 clear, ne-eqb (li o) 0 more)
+          on =
+              simp (le-ltb n (size o) whole, le-ltb (cidOf o a) 4 free, le-ltb 0 (spare a) none-set, ne-eqb (li o) 0 more)
 
           pub past : n - size o < b → told at o a b n ≡ Bad lengthPastField
           past h = on ∙ simp (lt-ltb (n - size o) b h)
