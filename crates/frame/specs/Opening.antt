@@ -11,6 +11,7 @@ use Rattle.frame.specs.declared.header.SubFrame.{SubFrame}
 use Rattle.frame.specs.declared.header.Header.{Header}
 use Rattle.frame.specs.declared.header.Header.the-variants.{Sub, Bad, Past}
 use Rattle.frame.specs.declared.opening.Opened.{Opened}
+use Rattle.frame.specs.declared.opening.Checked.{Checked}
 use Rattle.frame.specs.Header.{headerAt}
 pub use Rattle.frame.specs.Header.{unused}
 
@@ -67,6 +68,10 @@ allOrNone o = cond (eqb (o .number) sound) o (stopped (o .number) (o .at))
 
 unfoldable pub opening : List ℕ → Opening
 opening s = allOrNone (scanned s)
+
+-- a scan without the list of its sub-frames: how many
+abbrev pub checked : Opening → Checked
+checked o = record { number = o .number; at = o .at; count = length (o .subs) }
 
 -- the answer of the code: the sub-frames stand in 64 places
 abbrev pub answer : Opening → Opened
