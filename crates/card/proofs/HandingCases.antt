@@ -1,24 +1,30 @@
--- What stands after a sub-frame, by the tests of `after_sub`; what is handed, by the tests of `find`; and what `hand` makes of it.
+-- What the code finds, by its tests: whether a sub-frame serves, the walk over the sub-frames, and what `hand` makes of it.
 use Prim.Native.Nat.{ℕ, _+_, _-_, _<_, _≤_}
 use mathlib.Core.Path.{_≡_, refl, sym, ap, subst, _∙_}
-use mathlib.Core.List.{List, []}
-use mathlib.Core.Bool.{false, cond}
-use mathlib.Core.Logic.{⊎-elim}
+use mathlib.Core.List.{List, [], _∷_}
+use mathlib.Core.Bool.{Bool, true, false, cond}
 use native.Mathlib.Omega.{arith}
 use borrow.Author.Tests.{eq-eqb, ne-eqb}
+use lib.Dec.{eqb}
 use lib.ListN.{length, take, drop}
-use Rattle.octets.proofs.Order.{eq-or-ne}
-use Rattle.refusal.specs.Numbers.{sound, fieldEmpty, fieldTooLong}
+use Rattle.refusal.specs.Numbers.{sound}
 use Rattle.frame.specs.declared.header.SubFrame.{SubFrame}
-use Rattle.frame.specs.Opening.{Opening, stopped, endOf, scan, scanned, opening}
-use Rattle.frame.proofs.OpeningTurns as opened
+use Rattle.frame.specs.declared.header.Header.the-variants.{Sub}
+use Rattle.frame.specs.Header.{headerAt, subAt}
+use Rattle.frame.specs.Opening.{endOf, opening}
+use Rattle.frame.proofs.HeaderInverse.{ends-within, sub-at-tells}
+use Rattle.frame.proofs.OpeningTurns.{Ahead, opens-ahead}
+use Rattle.record.specs.declared.syntax.Record.{Record}
 use Rattle.record.specs.declared.table.Found.{Found}
+use Rattle.record.specs.declared.table.Found.the-variants.{Provisioned, Unprovisioned}
 use Rattle.record.specs.Record.{foundAt}
+use Rattle.payload.specs.declared.layout.Family.{Family}
+use Rattle.payload.specs.declared.layout.Family.the-variants.{VoiceFamily, DataFamily, FaxFamily}
+use Rattle.payload.specs.Layout.{familyOf}
 use Rattle.payload.specs.Content.{payloadRead, numberOf}
 use Rattle.card.specs.declared.handing.Handed.{Handed}
 use Rattle.card.specs.declared.handing.Handed.the-variants.{FromFrame, FromSilence, NotHanded}
-use Rattle.card.specs.Handing.{part, serves, afterOpening, handed, octetsOf, placeOf, fromFrame, fromSilence, sourceOf}
-use Rattle.card.specs.Turn.{afterSub}
+use Rattle.card.specs.Handing.{part, serves, firstOf, onFamily, onChannel, afterOpening, handed, octetsOf, placeOf, fromFrame, fromSilence, sourceOf}
 
 -- the part of s from a place to an end
 abbrev pub between : List ℕ → ℕ → ℕ → List ℕ
@@ -27,74 +33,126 @@ between s start end = take (end - start) (drop start s)
 pub cut : (s : List ℕ) (start len : ℕ) → between s start (start + len) ≡ part s start len
 cut s start len = let n : start + len - start ≡ len = omega arith in ap (λ (m : ℕ). take m (drop start s)) n
 
+-- the three tests of a sub-frame
 module _ (found : Found) (cid : ℕ) (s : List ℕ) (sub : SubFrame) where
-  not-served : (h : Handed) → serves found cid s sub ≡ false → afterSub found cid s h sub ≡ h
-  unfolding afterSub
-  not-served FromSilence n = ap (λ b. cond b (FromFrame (sub .start) (sub .len)) FromSilence) n
-  not-served (FromFrame start len) n = refl
-  not-served (NotHanded number) n = refl
-
-module _ (found : Found) (cid : ℕ) (s : List ℕ) (sub : SubFrame) {stood : Handed} where
-  pub found-stays : (start len : ℕ) → stood ≡ FromFrame start len → afterSub found cid s stood sub ≡ FromFrame start len
-  unfolding afterSub
-  found-stays start len e = ap (λ h. afterSub found cid s h sub) e
-
-  pub refused-stays : (number : ℕ) → stood ≡ NotHanded number → afterSub found cid s stood sub ≡ NotHanded number
-  unfolding afterSub
-  refused-stays number e = ap (λ h. afterSub found cid s h sub) e
-
-  pub other-cid : (sub .cid ≡ cid → ⊥) → afterSub found cid s stood sub ≡ stood
+  pub other-cid : (sub .cid ≡ cid → ⊥) → serves found cid s sub ≡ false
   unfolding serves
-  other-cid h = not-served found cid s sub stood (simp (ne-eqb (sub .cid) cid h))
+  other-cid h = simp (ne-eqb (sub .cid) cid h)
 
   module _ (here : sub .cid ≡ cid) where
-    pub other-type : (sub .ptype ≡ 0 → ⊥) → afterSub found cid s stood sub ≡ stood
+    pub other-type : (sub .ptype ≡ 0 → ⊥) → serves found cid s sub ≡ false
     unfolding serves
-    other-type h = not-served found cid s sub stood (simp (eq-eqb (sub .cid) cid here, ne-eqb (sub .ptype) 0 h))
+    other-type h = simp (eq-eqb (sub .cid) cid here, ne-eqb (sub .ptype) 0 h)
 
-    module _ (type-0 : sub .ptype ≡ 0) (e : stood ≡ FromSilence) {number : ℕ} (told : number ≡ numberOf (payloadRead found 0 (between s (sub .start) (endOf sub)))) where
-      is : number ≡ numberOf (payloadRead found 0 (part s (sub .start) (sub .len)))
-      is = told ∙ ap (λ p. numberOf (payloadRead found 0 p)) (cut s (sub .start) (sub .len))
+    pub passes : sub .ptype ≡ 0 → (number : ℕ) → number ≡ numberOf (payloadRead found 0 (between s (sub .start) (endOf sub))) → eqb number sound ≡ serves found cid s sub
+    unfolding serves
+    passes type-0 number told =
+        let is = told ∙ ap (λ (p : List ℕ). numberOf (payloadRead found 0 p)) (cut s (sub .start) (sub .len)) in
+        simp (eq-eqb (sub .cid) cid here, eq-eqb (sub .ptype) 0 type-0, ← is)
 
-      pub passes : number ≡ sound → afterSub found cid s stood sub ≡ FromFrame (sub .start) (sub .len)
-      unfolding afterSub serves
-      passes h = rw e (simp (eq-eqb (sub .cid) cid here, eq-eqb (sub .ptype) 0 type-0, eq-eqb _ sound (sym is ∙ h)))
+-- The walk: what is still to come decides, and lies within the frame.
+pub record Left (found : Found) (cid : ℕ) (s : List ℕ) (at left : ℕ) : Type 0 where
+  pub rest : List SubFrame
+  pub many : length rest ≡ left
+  pub next : Ahead s at rest
+  pub decides : firstOf found cid s (opening s .subs) ≡ firstOf found cid s rest
 
-      pub fails : (number ≡ sound → ⊥) → afterSub found cid s stood sub ≡ FromSilence
-      unfolding afterSub serves
-      fails h = rw e (simp (eq-eqb (sub .cid) cid here, eq-eqb (sub .ptype) 0 type-0, ne-eqb _ sound (λ z. h (is ∙ z))))
+pub begins : (found : Found) (cid : ℕ) (s : List ℕ) (count : ℕ) → count ≡ length (opening s .subs) → Left found cid s 0 count
+begins found cid s count is = record { rest = opening s .subs; many = sym is; next = opens-ahead s; decides = refl }
 
--- The sub-frames before a fault are not looked at.
-module _ (found : Found) (cid : ℕ) (s : List ℕ) where
-  refused-is : (o : Opening) → (o .number ≡ sound → ⊥) → afterOpening found cid s o ≡ NotHanded (o .number)
-  unfolding afterOpening
-  refused-is o h = simp (ne-eqb (o .number) sound h)
+-- the next sub-frame, and what is left behind it
+pub record Met (found : Found) (cid : ℕ) (s : List ℕ) (at left : ℕ) (sub : SubFrame) : Type 0 where
+  pub rest : List SubFrame
+  pub many : length rest ≡ left - 1
+  pub told : headerAt s at ≡ Sub sub
+  pub next : Ahead s (endOf sub) rest
+  pub decides : firstOf found cid s (opening s .subs) ≡ firstOf found cid s (sub ∷ rest)
 
-  pub all-or-none : afterOpening found cid s (opening s) ≡ afterOpening found cid s (scanned s)
-  all-or-none =
-      ⊎-elim (λ h. ap (afterOpening found cid s) (opened.sound-is s h))
-      (λ h.
-      ap (afterOpening found cid s) (opened.refused-is s h)
-      ∙ refused-is (stopped (scanned s .number) (scanned s .at)) h
-      ∙ sym (refused-is (scanned s) h))
-      (eq-or-ne (scanned s .number) sound)
+met-in : (found : Found) (cid : ℕ) (s : List ℕ) (at left : ℕ) (sub : SubFrame) → sub ≡ subAt s at → 0 < left
+    → (rest : List SubFrame) → length rest ≡ left → Ahead s at rest → firstOf found cid s (opening s .subs) ≡ firstOf found cid s rest
+    → Met found cid s at left sub
+met-in found cid s at left sub is some [] many next decides = absurd (omega (arith, many))
+met-in found cid s at left sub is some (x ∷ rest) many next decides =
+    let same : x ≡ sub = sym (sub-at-tells s at x (next .0)) ∙ sym is in
+    record {
+      rest = rest;
+      many = omega (arith, many);
+      told = next .0 ∙ ap Sub same;
+      next = subst (λ (y : SubFrame). Ahead s (endOf y) rest) same (next .1);
+      decides = decides ∙ ap (λ (y : SubFrame). firstOf found cid s (y ∷ rest)) same;
+    }
 
+module _ {found : Found} {cid : ℕ} {s : List ℕ} {at left : ℕ} (l : Left found cid s at left) where
+  pub done : left ≤ 0 → FromSilence ≡ firstOf found cid s (opening s .subs)
+  unfolding firstOf
+  done none = sym (l .decides ∙ empty (l .rest) (omega (arith, l .many)))
+    where
+      empty : (rest : List SubFrame) → length rest ≤ 0 → firstOf found cid s rest ≡ FromSilence
+      empty [] h = refl
+      empty (x ∷ rest) h = absurd (omega arith)
+
+  module _ (some : 0 < left) (sub : SubFrame) (is : sub ≡ subAt s at) where
+    pub met : Met found cid s at left sub
+    met = met-in found cid s at left sub is some (l .rest) (l .many) (l .next) (l .decides)
+
+    pub within : endOf sub ≤ length s
+    within = ends-within s at sub (met .told)
+
+    pub served : serves found cid s sub ≡ true → FromFrame (sub .start) (sub .len) ≡ firstOf found cid s (opening s .subs)
+    unfolding firstOf
+    served h = sym (met .decides ∙ simp h)
+
+    pub turn : serves found cid s sub ≡ false → Left found cid s (endOf sub) (left - 1)
+    unfolding firstOf
+    turn h = record { rest = met .rest; many = met .many; next = met .next; decides = met .decides ∙ simp h }
+
+-- what the record of the sub-channel makes of what was found
+pub by-family : {found : Found} {f g : Family} (r : Record) (h : Handed) → found ≡ Provisioned r → f ≡ familyOf (r .syntax) → f ≡ g → onFamily g h ≡ onChannel found h
+by-family r h e is same = ap (λ (x : Family). onFamily x h) (sym same ∙ is) ∙ ap (λ (x : Found). onChannel x h) (sym e)
+
+-- what is handed, by the frame's number and then by the record
 module _ (s table : List ℕ) (cid : ℕ) where
-  handed-is : (o : Opening) → scanned s ≡ o → handed s table cid ≡ afterOpening (foundAt table cid) cid s o
-  unfolding handed
-  handed-is o e = all-or-none (foundAt table cid) cid s ∙ ap (afterOpening (foundAt table cid) cid s) e
+  pub refused : (opening s .number ≡ sound → ⊥) → NotHanded (opening s .number) ≡ handed s table cid
+  unfolding handed afterOpening
+  refused h = simp (ne-eqb (opening s .number) sound h)
 
-  pub empty : length s ≡ 0 → handed s table cid ≡ NotHanded fieldEmpty
-  unfolding afterOpening
-  empty h = handed-is (stopped fieldEmpty 0) (opened.empty s h)
+  pub opened : opening s .number ≡ sound → (found : Found) → found ≡ foundAt table cid → onChannel found (firstOf found cid s (opening s .subs)) ≡ handed s table cid
+  unfolding handed afterOpening
+  opened h found is = simp (eq-eqb (opening s .number) sound h, ← is)
 
-  module _ (some : length s ≡ 0 → ⊥) where
-    pub long : 1600 < length s → handed s table cid ≡ NotHanded fieldTooLong
-    unfolding afterOpening
-    long h = handed-is (stopped fieldTooLong 0) (opened.long s some h)
+  -- what is handed of the frame lies within it
+  pub handed-within : {h : Handed} (start len : ℕ) → h ≡ handed s table cid → h ≡ FromFrame start len → start + len ≤ length s
+  unfolding handed afterOpening firstOf
+  handed-within start len is e = inside-of (sym is ∙ e) (all (foundAt table cid) (eqb (opening s .number) sound))
+    where
+      Inside : Handed → Type 0
+      Inside (FromFrame start len) = start + len ≤ length s
+      Inside FromSilence = Unit
+      Inside (NotHanded number) = Unit
 
-    pub scans : length s ≤ 1600 → handed s table cid ≡ afterOpening (foundAt table cid) cid s (scan 64 s 0)
-    scans h = handed-is (scan 64 s 0) (opened.scans s some h)
+      inside-of : handed s table cid ≡ FromFrame start len → Inside (handed s table cid) → start + len ≤ length s
+      inside-of same i = subst Inside same i
+
+      one : (found : Found) (b : Bool) (sub : SubFrame) (next : Handed) → endOf sub ≤ length s → Inside next → Inside (cond b (FromFrame (sub .start) (sub .len)) next)
+      one found true sub next ends i = ends
+      one found false sub next ends i = i
+
+      first : (found : Found) (at : ℕ) (subs : List SubFrame) → Ahead s at subs → Inside (firstOf found cid s subs)
+      first found at [] next = tt
+      first found at (sub ∷ subs) next = one found (serves found cid s sub) sub _ (ends-within s at sub (next .0)) (first found (endOf sub) subs (next .1))
+
+      family : (f : Family) (h : Handed) → Inside h → Inside (onFamily f h)
+      family VoiceFamily h i = i
+      family DataFamily h i = tt
+      family FaxFamily h i = tt
+
+      channel : (found : Found) (h : Handed) → Inside h → Inside (onChannel found h)
+      channel (Provisioned r) h i = family (familyOf (r .syntax)) h i
+      channel Unprovisioned h i = tt
+
+      all : (found : Found) (b : Bool) → Inside (cond b (onChannel found (firstOf found cid s (opening s .subs))) (NotHanded (opening s .number)))
+      all found true = channel found _ (first found 0 (opening s .subs) (opens-ahead s))
+      all found false = tt
 
 -- What `hand` promises of the octets, their place and the source, when this is handed.
 abbrev pub Promised : List ℕ → List ℕ → ℕ × ℕ → ℕ × ℕ → List ℕ → ℕ × ℕ → ℕ → Handed → Type 0

@@ -1,4 +1,2 @@
 pub mod HandingCases
-pub mod HandingTurns
-pub mod HandingInside
 pub mod Examples

@@ -1,16 +1,13 @@
 // What the voice card is handed for a call (document 01, "Frame and sub-frame", its last paragraph).
-use frame::header::Header;
 use frame::header::SubFrame;
-use record::syntax::Syntax;
+use payload::layout::Family;
 use record::table::Found;
 ghost use mathlib.Core.Path.{_≡_};
 ghost use Prim.Native.Nat.{_≤_};
 ghost use lib.ListN.{length};
 ghost use denote.Ref.{ptr};
-ghost use Rattle.frame.specs.Opening.{endOf, scan};
-ghost use Rattle.payload.specs.Layout.{familyOf};
-ghost use Rattle.card.specs.Handing.{onFamily, onChannel, afterOpening, handed, octetsOf, placeOf, sourceOf};
-ghost use Rattle.card.specs.Turn.{afterSub};
+ghost use Rattle.frame.specs.Opening.{endOf, opening};
+ghost use Rattle.card.specs.Handing.{serves, firstOf, handed, octetsOf, placeOf, sourceOf};
 
 // What `source` holds: 0 for a part of the frame, 255 for the silence block (no refusal has it), else the refusal number.
 pub const FROM_FRAME: u8 = refusal::SOUND;
@@ -24,99 +21,63 @@ pub enum Handed {
     NotHanded(u8),
 }
 
-// The refusal of a data or fax sub-channel; silence on the others, as long as no payload is found.
-fn on_syntax(syntax: Syntax) -> Handed
-    ensures { λ r. ⌜ r ≡ onFamily (familyOf syntax) Handed.FromSilence ⌝ }
-{
-    match syntax {
-        Syntax::Acelp => Handed::FromSilence,
-        Syntax::Pcm => Handed::FromSilence,
-        Syntax::G727 => Handed::FromSilence,
-        Syntax::G728 => Handed::FromSilence,
-        Syntax::G7231 => Handed::FromSilence,
-        Syntax::Data => Handed::NotHanded(refusal::TYPE_NOT_ALLOWED),
-        Syntax::Fax => Handed::NotHanded(refusal::TYPE_NOT_ALLOWED),
-    }
-}
-
-// What stands before the first sub-frame.
-fn before_all(found: Found) -> Handed
-    ensures { λ r. ⌜ r ≡ onChannel found Handed.FromSilence ⌝ }
-{
-    match found {
-        Found::Provisioned(rec) => {
-            let syntax = rec.syntax;
-            on_syntax(syntax)
-        }
-        Found::Unprovisioned => Handed::NotHanded(refusal::NOT_PROVISIONED),
-    }
-}
-
-// What stands after a sub-frame of the frame, from what stood before it.
-fn after_sub(frame: &[u8], found: Found, cid: u8, stood: Handed, sub: SubFrame) -> Handed
+// Whether a sub-frame is a type 0 payload on the sub-channel that passes its checks.
+fn serves(frame: &[u8], found: Found, cid: u8, sub: SubFrame) -> bool
     requires { ⌜ endOf sub ≤ length (now frame) ⌝ }
-    ensures { λ r. ⌜ r ≡ afterSub found cid (now (frame .entry)) stood sub ⌝ }
+    ensures { λ r. ⌜ r ≡ serves found cid (now (frame .entry)) sub ⌝ }
 {
     if sub.cid != cid {
-        return stood;
+        return false;
     }
     if sub.ptype != 0 {
-        return stood;
+        return false;
     }
-    match stood {
-        Handed::FromFrame { start, len } => Handed::FromFrame { start, len },
-        Handed::NotHanded(number) => Handed::NotHanded(number),
-        Handed::FromSilence => {
-            let start = sub.start;
-            let len = sub.len;
-            let end = start + len;
-            if payload::check::check_payload(found, 0, &frame[start..end]) == refusal::SOUND {
-                return Handed::FromFrame { start, len };
-            }
-            Handed::FromSilence
-        }
-    }
+    let start = sub.start;
+    let end = start + sub.len;
+    payload::check::check_payload(found, 0, &frame[start..end]) == refusal::SOUND
 }
 
-// What is handed of a frame of 1 to 1,600 octets, in one pass over its headers. A refusal of the frame comes first.
-fn pass(frame: &[u8], found: Found, cid: u8) -> Handed
-    ensures { λ r. ⌜ r ≡ afterOpening found cid (now (frame .entry)) (scan 64 (now (frame .entry)) 0) ⌝ }
+// The first such payload of a frame of so many sub-frames or, where there is none, silence.
+fn first_of(frame: &[u8], found: Found, cid: u8, count: usize) -> Handed
+    requires { ⌜ count ≡ length (opening (now frame) .subs) ⌝ }
+    ensures { λ r. ⌜ r ≡ firstOf found cid (now (frame .entry)) (opening (now (frame .entry)) .subs) ⌝ }
 {
-    let mut stands = before_all(found);
     let mut at: usize = 0;
-    let mut count: usize = 0;
-    while count < frame::opening::MOST_SUB_FRAMES {
-        match frame::header::header_at(frame, at) {
-            Header::Sub(sub) => {
-                stands = after_sub(frame, found, cid, stands, sub);
-                count += 1;
-                at = sub.start + sub.len;
-                if sub.last {
-                    return stands;
-                }
-            }
-            Header::Bad(number) => {
-                return Handed::NotHanded(number);
-            }
-            Header::Past => {
-                return stands;
-            }
+    let mut left = count;
+    while 0 < left {
+        let sub = frame::header::sub_at(frame, at);
+        if serves(frame, found, cid, sub) {
+            return Handed::FromFrame {
+                start: sub.start,
+                len: sub.len,
+            };
         }
+        at = sub.start + sub.len;
+        left -= 1;
     }
-    Handed::NotHanded(refusal::TOO_MANY_SUB_FRAMES)
+    Handed::FromSilence
 }
 
 // What is handed for a call on a sub-channel, from this frame.
 pub fn find(frame: &[u8], table: &[u16; 256], cid: u8) -> Handed
     ensures { λ r. ⌜ r ≡ handed (now (frame .entry)) (now (table .entry)) cid ⌝ }
 {
-    if frame.len() == 0 {
-        return Handed::NotHanded(refusal::FIELD_EMPTY);
+    let checked = frame::opening::check(frame);
+    if checked.number != refusal::SOUND {
+        return Handed::NotHanded(checked.number);
     }
-    if frame::opening::MOST_OCTETS < frame.len() {
-        return Handed::NotHanded(refusal::FIELD_TOO_LONG);
+    let found = record::table::record_of(table, cid);
+    match found {
+        Found::Unprovisioned => Handed::NotHanded(refusal::NOT_PROVISIONED),
+        Found::Provisioned(rec) => {
+            let syntax = rec.syntax;
+            match payload::layout::family_of(syntax) {
+                Family::VoiceFamily => first_of(frame, found, cid, checked.count),
+                Family::DataFamily => Handed::NotHanded(refusal::TYPE_NOT_ALLOWED),
+                Family::FaxFamily => Handed::NotHanded(refusal::TYPE_NOT_ALLOWED),
+            }
+        }
     }
-    pass(frame, record::table::record_of(table, cid), cid)
 }
 
 // Hands the voice card the payload, a part of the frame; the silence block, whole; or an empty part of the frame. `source` says

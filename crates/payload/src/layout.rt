@@ -41,7 +41,8 @@ pub enum TypeFor {
     NoType(u8),
 }
 
-fn family_of(syntax: Syntax) -> Family
+// What a syntax has in common with others.
+pub fn family_of(syntax: Syntax) -> Family
     ensures { λ r. ⌜ r ≡ familyOf syntax ⌝ }
 {
     match syntax {

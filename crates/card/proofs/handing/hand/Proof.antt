@@ -2,7 +2,6 @@
 use borrow.Author.Needs.{needs}
 use native.Mathlib.Omega.{arith}
 use Rattle.card.proofs.HandingCases as cases
-use Rattle.card.proofs.HandingInside as inside
 use Rattle.card.proofs.handing.hand.Statement.{statement}
 use Rattle.card.proofs.handing.hand.Tie as tie
 
@@ -17,7 +16,7 @@ add-end c =
     let told = c .before .start .given in
     let find = c .before .before .before in
     let a = find .before .before .before .args in
-    omega (arith, inside.ends-within (a .frame .now) (a .table .now) (a .cid) (told .0 .0) (told .0 .1 .0) (find .find .ensures) (told .1))
+    omega (arith, cases.handed-within (a .frame .now) (a .table .now) (a .cid) (told .0 .0) (told .0 .1 .0) (find .find .ensures) (told .1))
 
 sub-result : tie.Need-sub-result
 sub-result c = search needs
@@ -30,7 +29,7 @@ part-result-end c =
     let told = c .before .start .given in
     let find = c .before .before .before in
     let a = find .before .before .before .args in
-    inside.ends-within (a .frame .now) (a .table .now) (a .cid) (told .0 .0) (told .0 .1 .0) (find .find .ensures) (told .1)
+    cases.handed-within (a .frame .now) (a .table .now) (a .cid) (told .0 .0) (told .0 .1 .0) (find .find .ensures) (told .1)
 
 enum-told : tie.Need-enum-told
 enum-told c = search needs
