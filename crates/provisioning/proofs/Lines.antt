@@ -8,7 +8,7 @@ use native.Mathlib.Nat.{le-trans}
 use native.Mathlib.Omega.{arith}
 use borrow.Author.Tests.{leb-true}
 use lib.Dec.{leb, eqb}
-use lib.ListN.{length}
+use lib.ListN.{length, length-append}
 use Rattle.refusal.specs.Numbers.{lineMalformed, valueNotListed, cidNotRising}
 use Rattle.octets.specs.Text.{starts, hasLf}
 use Rattle.record.specs.declared.syntax.Syntax.{Syntax}
@@ -24,6 +24,7 @@ use Rattle.provisioning.specs.declared.line.State.{State}
 use Rattle.provisioning.specs.declared.line.Step.the-variants.{Goes, Stops}
 use Rattle.provisioning.specs.Value.{wordAmong, wordOf, valueLine}
 use Rattle.provisioning.specs.Line.{row, lineBy}
+use Rattle.provisioning.proofs.Values as values
 use Rattle.provisioning.proofs.Numbers as numbers
 
 -- the key of the kind that is due
@@ -69,18 +70,9 @@ Stands s x v n = (v ≡ place x) × (starts s (word x ++ 10 ∷ []) ≡ true) ×
 abbrev pub Word : List ℕ → ℕ → ℕ → Type 0
 Word s v n = ((v ≡ 0) × (n ≡ 0)) ⊎ ((x : Syntax) × Stands s x v n)
 
-pub never : {A : Type 0} (v n : ℕ) → Malformed ≡ Whole v n → A
-never v n e = let z : _≡_ {A = ℕ} 0 1 = cc in absurd (omega arith)
-
-pub same-value : (v w i j : ℕ) → Whole v i ≡ Whole w j → v ≡ w
-same-value v w i j e = cc
-
-pub same-size : (v w i j : ℕ) → Whole v i ≡ Whole w j → i ≡ j
-same-size v w i j e = cc
-
 none-left : (s : List ℕ) (t : Bool) (v n : ℕ) → cond t (Whole 0 0) Malformed ≡ Whole v n → Word s v n
-none-left s true v n e = inl (sym (same-value 0 v 0 n e), sym (same-size 0 v 0 n e))
-none-left s false v n e = never v n e
+none-left s true v n e = inl (sym (values.same-value 0 v 0 n e), sym (values.same-size 0 v 0 n e))
+none-left s false v n e = values.never v n e
 
 this-or-later :
     (s : List ℕ) (x : Syntax) (v n : ℕ) (rest : Value) (t : Bool)
@@ -89,7 +81,7 @@ this-or-later :
     → (rest ≡ Whole v n → Word s v n)
     → Word s v n
 this-or-later s x v n rest true h e later =
-    inr (x, (sym (same-value (place x) v _ n e), h, sym (same-size (place x) v _ n e)))
+    inr (x, (sym (values.same-value (place x) v _ n e), h, sym (values.same-size (place x) v _ n e)))
 this-or-later s x v n rest false h e later = later e
 
 pub word-back : (xs : List Syntax) (s : List ℕ) (v n : ℕ) → wordAmong xs s ≡ Whole v n → Word s v n
@@ -97,7 +89,7 @@ unfolding wordAmong
 word-back [] s v n e = none-left s (hasLf s) v n e
 word-back (x ∷ xs) s v n e = this-or-later s x v n (wordAmong xs s) (starts s (word x ++ 10 ∷ [])) refl e (λ later. word-back xs s v n later)
 
-word-length : (x : Syntax) → length (word x ++ 10 ∷ []) ≤ 6
+pub word-length : (x : Syntax) → length (word x) ≤ 5
 word-length Acelp = omega arith
 word-length Pcm = omega arith
 word-length G727 = omega arith
@@ -108,7 +100,7 @@ word-length Fax = omega arith
 
 word-small : (s : List ℕ) (v n : ℕ) → wordOf s ≡ Whole v n → n ≤ 6
 word-small s v n e =
-    ⊎-elim (λ none. omega (arith, none .1)) (λ w. omega (arith, w .1 .2, word-length (w .0))) (word-back _ s v n e)
+    ⊎-elim (λ none. omega (arith, none .1)) (λ w. omega (arith, w .1 .2, length-append (word (w .0)) (10 ∷ []), word-length (w .0))) (word-back _ s v n e)
 
 number-small : (s : List ℕ) (v n : ℕ) → numbers.Read s v n → n ≤ 6
 number-small s v n r = omega (arith, r .few)

@@ -8,7 +8,6 @@ use borrow.Author.Tests.{lt-ltb, le-ltb}
 use lib.ListN.{length, getD, drop, List·getD-eq-default}
 use lib.Seq.{drop-cons}
 use Rattle.octets.proofs.Order.{lt-or-le, eq-or-ne}
-use Rattle.provisioning.specs.declared.value.Value.{Value}
 use Rattle.provisioning.specs.declared.value.Value.the-variants.{Whole, Malformed}
 use Rattle.provisioning.specs.Value.{digitOf, numberOf}
 use Rattle.provisioning.specs.Back.{decimal}
@@ -158,19 +157,10 @@ decided s =
     (eq-or-ne q 10))
     (lt-or-le 9 (digitOf p))
 
-never : {A : Type 0} (n : Value) (value size : ℕ) → Malformed ≡ n → n ≡ Whole value size → A
-never n value size p q = let z : _≡_ {A = ℕ} 0 1 = cc in absurd (omega arith)
-
-same-value : (n : Value) (v w i j : ℕ) → Whole v i ≡ n → n ≡ Whole w j → v ≡ w
-same-value n v w i j p q = cc
-
-same-size : (n : Value) (v w i j : ℕ) → Whole v i ≡ n → n ≡ Whole w j → i ≡ j
-same-size n v w i j p q = cc
-
 pub read-back : (s : List ℕ) (value size : ℕ) → numberOf s ≡ Whole value size → Read s value size
 read-back s value size e =
-    ⊎-elim (λ no. never _ _ _ no e)
+    ⊎-elim (λ no. values.never value size (no ∙ e))
     (λ w.
-    subst (λ (v : ℕ). Read s v size) (same-value _ _ _ _ _ (w .2) e)
-    (subst (λ (n : ℕ). Read s (w .0) n) (same-size _ _ _ _ _ (w .2) e) (w .3)))
+    subst (λ (v : ℕ). Read s v size) (values.same-value (w .0) value (w .1) size (w .2 ∙ e))
+    (subst (λ (n : ℕ). Read s (w .0) n) (values.same-size (w .0) value (w .1) size (w .2 ∙ e)) (w .3)))
     (decided s)

@@ -25,6 +25,7 @@ use Rattle.provisioning.specs.declared.line.Step.the-variants.{Goes, Sto
 use Rattle.provisioning.specs.Value.{further, valueLine}
 use Rattle.provisioning.specs.Line.{row, lineBy, lineAt}
 use Rattle.provisioning.specs.Back.{valueText, lineText}
+use Rattle.provisioning.proofs.Values as values
 use Rattle.provisioning.proofs.Numbers as numbers
 use Rattle.provisioning.proofs.Lines as lines
 
@@ -84,19 +85,19 @@ module _ (key : List ℕ) (read : List ℕ → Value) (s : List ℕ) (v n : ℕ)
       → read (drop (length key) s) ≡ value
       → further (length key) value ≡ Whole v n
       → Keyed key read s v n
-  keyed-by Malformed st is e = lines.never v n e
+  keyed-by Malformed st is e = values.never v n e
   keyed-by (Whole w j) st is e =
       record {
         size = j;
         stands = st;
-        reads = is ∙ ap (λ (x : ℕ). Whole x j) (lines.same-value w v (length key + j) n e);
-        whole = lines.same-size w v (length key + j) n e;
+        reads = is ∙ ap (λ (x : ℕ). Whole x j) (values.same-value w v (length key + j) n e);
+        whole = values.same-size w v (length key + j) n e;
       }
 
   keyed-if : (t : Bool) → starts s key ≡ t → valueLine key read s ≡ Whole v n → Keyed key read s v n
   unfolding valueLine
   keyed-if true st e = keyed-by (read (drop (length key) s)) st refl (rw st at e)
-  keyed-if false st e = lines.never v n (rw st at e)
+  keyed-if false st e = values.never v n (rw st at e)
 
 module _ (st : State) (s : List ℕ) where
   took :

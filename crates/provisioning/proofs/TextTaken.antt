@@ -249,15 +249,6 @@ blocks-walk (e ∷ es) (suc (suc zero)) done last old r h = absurd (omega arith)
 blocks-walk (e ∷ es) (suc zero) done last old r h = absurd (omega arith)
 
 -- how long the lines are
-word-length : (x : Syntax) → length (word x) ≤ 5
-word-length Acelp = omega arith
-word-length Pcm = omega arith
-word-length G727 = omega arith
-word-length G728 = omega arith
-word-length G7231 = omega arith
-word-length Data = omega arith
-word-length Fax = omega arith
-
 digits-one : (n : ℕ) → n < 10 → length (decimal n) ≤ 1
 digits-one n h = rw (one-digit n h) (omega arith)
 
@@ -282,7 +273,7 @@ block-length cid r to has =
     let most : r .m ≤ 12 = has .most in
     let bit : cond (r .seq) 1 0 ≤ 1 = bit-small (r .seq) in
     let la : length a ≤ 8 = omega (arith, line-length cid r to has OfCid, digits-three cid) in
-    let lb : length b ≤ 13 = omega (arith, line-length cid r to has OfSyntax, word-length (r .syntax)) in
+    let lb : length b ≤ 13 = omega (arith, line-length cid r to has OfSyntax, lines.word-length (r .syntax)) in
     let lc : length c ≤ 5 = omega (arith, line-length cid r to has OfM, digits-two (r .m) (omega arith)) in
     let ld : length d ≤ 6 = omega (arith, line-length cid r to has OfSeq, digits-one (cond (r .seq) 1 0) (omega arith)) in
     omega (arith, length-append (a ++ b ++ c) d, length-append (a ++ b) c, length-append a b)

@@ -68,6 +68,16 @@ module _ (s : List ℕ) {p a : ℕ} (ep : p ≡ getD s 0 0) (ea : a ≡ digitOf 
               pub no-end : (t ≡ 10 → ⊥) → Malformed ≡ numberOf s
               no-end h = sym (on ∙ simp (le-ltb 9 d digit3, ← et, ne-eqb t 10 h))
 
+-- two values that are equal
+pub never : {A : Type 0} (v n : ℕ) → Malformed ≡ Whole v n → A
+never v n e = let z : _≡_ {A = ℕ} 0 1 = cc in absurd (omega arith)
+
+pub same-value : (v w i j : ℕ) → Whole v i ≡ Whole w j → v ≡ w
+same-value v w i j e = cc
+
+pub same-size : (v w i j : ℕ) → Whole v i ≡ Whole w j → i ≡ j
+same-size v w i j e = cc
+
 -- a part of a slice to its end
 pub rest-is : (s : List ℕ) (n : ℕ) → take (length s - n) (drop n s) ≡ drop n s
 rest-is s n = take-all (length s - n) (drop n s) (omega (arith, length-drop n s))
