@@ -83,7 +83,7 @@ window-back false edge code e =
     let h = edge-small (record { on = false; edge = edge; code = code }) e in
     let type : edge / 32 ≡ 0 = omega arith in
     let at : edge % 32 ≡ edge = omega arith in
-    record { free = rw type; is = rw (type, at); in-range = e }
+    record { free = rw type; is = rw (type, at); in-range = simp (le-ltb 19 edge h) }
 
 -- a level that was written reads back
 level-back : (z : ℤ) → levelLow (codeOf 31 z) ≡ false → (levelCode (codeOf 31 z) ≤ 31) × (levelOf (levelCode (codeOf 31 z)) ≡ normalLevel z)
