@@ -283,8 +283,11 @@ fn command_size(command: Command) -> usize
     ensures { λ r. ⌜ (r ≡ length (commandOctets command)) × (r ≤ 3) ⌝ }
 {
     match command {
+        Command::Off => 0,
         Command::On { .. } => 3,
-        _ => 0,
+        Command::Page => 0,
+        Command::EndOfFrame => 0,
+        Command::Abort => 0,
     }
 }
 
