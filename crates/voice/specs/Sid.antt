@@ -6,7 +6,7 @@ use mathlib.Core.Bool.{Bool, true, false, cond, not}
 use lib.Dec.{ltb, eqb}
 use lib.ListN.{length, getD}
 use Rattle.refusal.specs.Numbers.{typeNotAllowed, lengthWrong, valueOutOfRange}
-use Rattle.refusal.specs.Order.{_gives_, inOrder}
+use Rattle.refusal.specs.Order.{Test, _gives_, inOrder}
 use Rattle.octets.specs.Made.{Made, made, unmade}
 use Rattle.levels.specs.declared.Coded.{Coded}
 use Rattle.levels.specs.declared.Coded.the-variants.{Code, Above, Below}
@@ -33,17 +33,18 @@ abbrev pub sidIn : Syntax → List ℕ → Sid
 sidIn syntax payload =
     cond (eqb (sidOctets syntax) 0) Plain (Noise (record { 0 = getD payload 0 0 / 16 }) (levelOf (getD payload 1 0)))
 
+-- The refusals of a payload, in document 01's order.
+abbrev pub readRefusals : Syntax → List ℕ → List Test
+readRefusals syntax payload =
+    voiceless syntax gives typeNotAllowed
+    ∷ not (eqb (length payload) (sidOctets syntax)) gives lengthWrong
+    ∷ []
+
 -- What a payload tells.
 unfoldable pub sidRead : Syntax → List ℕ → SidRead
-sidRead syntax payload =
-    inOrder
-    (voiceless syntax gives typeNotAllowed
-    ∷ not (eqb (length payload) (sidOctets syntax)) gives lengthWrong
-    ∷ [])
-    BadSid
-    (Silence (sidIn syntax payload))
+sidRead syntax payload = inOrder (readRefusals syntax payload) BadSid (Silence (sidIn syntax payload))
 
--- a noise level above 0 or below -63, and the code of any other
+-- a noise level above 0 or below -63, and the magnitude of any other
 abbrev pub outOfRange : Coded → Bool
 outOfRange (Code magnitude) = false
 outOfRange Above = true
@@ -54,21 +55,22 @@ magnitudeIn (Code magnitude) = magnitude
 magnitudeIn Above = 0
 magnitudeIn Below = 0
 
--- The octets of a descriptor, for writing: 13 without noise where two octets are due, 15 for a value that would not be written.
-unfoldable pub sidMade : Syntax → Sid → Made
-sidMade syntax Plain =
-    inOrder
-    (voiceless syntax gives typeNotAllowed
-    ∷ not (eqb (sidOctets syntax) 0) gives lengthWrong
-    ∷ [])
-    unmade
-    (made [])
-sidMade syntax (Noise sequence level) =
-    inOrder
-    (voiceless syntax gives typeNotAllowed
-    ∷ eqb (sidOctets syntax) 0 gives valueOutOfRange
+-- The refusals of a descriptor, for writing: 13 without noise where two octets are due, 15 for a value that would not be written.
+abbrev pub valueRefusals : Syntax → Sid → List Test
+valueRefusals syntax Plain = not (eqb (sidOctets syntax) 0) gives lengthWrong ∷ []
+valueRefusals syntax (Noise sequence level) =
+    eqb (sidOctets syntax) 0 gives valueOutOfRange
     ∷ ltb 15 (sequence .0) gives valueOutOfRange
     ∷ outOfRange (codeOf 63 level) gives valueOutOfRange
-    ∷ [])
-    unmade
-    (made ((sequence .0 * 16) ∷ magnitudeIn (codeOf 63 level) ∷ []))
+    ∷ []
+
+abbrev pub writeRefusals : Syntax → Sid → List Test
+writeRefusals syntax sid = voiceless syntax gives typeNotAllowed ∷ valueRefusals syntax sid
+
+-- The octets of a descriptor.
+abbrev pub octetsFor : Sid → List ℕ
+octetsFor Plain = []
+octetsFor (Noise sequence level) = (sequence .0 * 16) ∷ magnitudeIn (codeOf 63 level) ∷ []
+
+unfoldable pub sidMade : Syntax → Sid → Made
+sidMade syntax sid = inOrder (writeRefusals syntax sid) unmade (made (octetsFor sid))

@@ -110,27 +110,34 @@ bodyRefusals r coding body =
     ∷ not (eqb (length body) (bodyOctets r coding (getD body 0 0))) gives lengthWrong
     ∷ []
 
+-- The refusals of a payload, in document 01's order.
+abbrev pub readRefusals : Record → List ℕ → List Test
+readRefusals r payload =
+    voiceless (r .syntax) gives typeNotAllowed
+    ∷ ltb (length payload) (frontOf r) gives lengthWrong
+    ∷ bodyRefusals r (codingIn r payload) (bodyIn r payload)
+
 -- What a payload tells.
 unfoldable pub voiceRead : Record → List ℕ → VoiceRead
 voiceRead r payload =
-    inOrder
-    (voiceless (r .syntax) gives typeNotAllowed
-    ∷ ltb (length payload) (frontOf r) gives lengthWrong
-    ∷ bodyRefusals r (codingIn r payload) (bodyIn r payload))
-    BadVoice
-    (Voice (record { 0 = sequenceIn r payload }) (codingIn r payload) (frontOf r))
+    inOrder (readRefusals r payload) BadVoice (Voice (record { 0 = sequenceIn r payload }) (codingIn r payload) (frontOf r))
 
 -- The largest sequence that a payload with so many front octets carries.
 abbrev pub mostSequence : ℕ → ℕ
 mostSequence front = cond (eqb front 0) 0 15
 
--- The octets of a voice payload, for writing: the refusals in the reader's order, then 15 for a sequence beyond its bits.
-unfoldable pub voiceMade : Record → ℕ → ℕ → List ℕ → Made
-voiceMade r sequence coding body =
-    inOrder
-    (voiceless (r .syntax) gives typeNotAllowed
+-- The refusals of a content, for writing: in the reader's order, then 15 for a sequence beyond its bits.
+abbrev pub writeRefusals : Record → ℕ → ℕ → List ℕ → List Test
+writeRefusals r sequence coding body =
+    voiceless (r .syntax) gives typeNotAllowed
     ∷ bodyRefusals r coding body
     ++ ltb (mostSequence (frontOf r)) sequence gives valueOutOfRange
-    ∷ [])
-    unmade
-    (made (take (frontOf r) ((sequence * 16 + coding) ∷ []) ++ body))
+    ∷ []
+
+-- The octets of a voice payload.
+abbrev pub frontOctets : Record → ℕ → ℕ → List ℕ
+frontOctets r sequence coding = take (frontOf r) ((sequence * 16 + coding) ∷ [])
+
+unfoldable pub voiceMade : Record → ℕ → ℕ → List ℕ → Made
+voiceMade r sequence coding body =
+    inOrder (writeRefusals r sequence coding body) unmade (made (frontOctets r sequence coding ++ body))

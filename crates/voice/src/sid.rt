@@ -26,9 +26,13 @@ fn sid_octets(syntax: Syntax) -> usize
     ensures { λ r. ⌜ r ≡ sidOctets syntax ⌝ }
 {
     match syntax {
+        Syntax::Acelp => 0,
         Syntax::Pcm => 2,
         Syntax::G727 => 2,
-        _ => 0,
+        Syntax::G728 => 0,
+        Syntax::G7231 => 0,
+        Syntax::Data => 0,
+        Syntax::Fax => 0,
     }
 }
 

@@ -7,12 +7,12 @@ use record::syntax::Syntax;
 ghost use mathlib.Core.Path.{_≡_};
 ghost use mathlib.Core.Bool.{true};
 ghost use lib.ListN.{getD};
-ghost use Prim.Native.Nat.{_<_};
+ghost use Prim.Native.Nat.{_*_, _<_};
 ghost use Rattle.octets.specs.Made.{fitOf, putMade, leftMade};
 ghost use mathlib.Core.List.{_∷_};
 ghost use Rattle.refusal.specs.Numbers.{sound, typeNotAllowed};
 ghost use Rattle.refusal.specs.Order.{_gives_, inOrder};
-ghost use Rattle.voice.specs.Voice.{codings, pcmOctets, g727Octets, blockOctets, g7231Octets, isG7231, seqFront, frontOf, voiceless, bodyRefusals, voiceRead, mostSequence, voiceMade};
+ghost use Rattle.voice.specs.Voice.{codings, pcmOctets, g727Octets, blockOctets, g7231Octets, isG7231, seqFront, frontBy, frontOf, voiceless, bodyRefusals, voiceRead, mostSequence, voiceMade};
 
 // The octets of a coding type, of Annex F and of Annex G.
 const PCM_OCTETS: [u8; 14] = [40, 35, 30, 40, 35, 30, 25, 20, 15, 10, 25, 20, 15, 10];
@@ -72,8 +72,18 @@ fn block_octets(syntax: Syntax, coding: u8) -> usize
         Syntax::Pcm => pcm_octets(coding),
         Syntax::G727 => g727_octets(coding),
         Syntax::G728 => 10,
-        _ => 0,
+        Syntax::G7231 => 0,
+        Syntax::Data => 0,
+        Syntax::Fax => 0,
     }
+}
+
+// The octets of m blocks.
+fn blocks_octets(m: u8, syntax: Syntax, coding: u8) -> usize
+    requires { ⌜ coding < codings syntax ⌝ }
+    ensures { λ r. ⌜ r ≡ m * blockOctets syntax coding ⌝ }
+{
+    octets::wide(m) * block_octets(syntax, coding)
 }
 
 // The octets of one G.723.1 frame, from its first octet.
@@ -87,8 +97,13 @@ fn is_g7231(syntax: Syntax) -> bool
     ensures { λ r. ⌜ r ≡ isG7231 syntax ⌝ }
 {
     match syntax {
+        Syntax::Acelp => false,
+        Syntax::Pcm => false,
+        Syntax::G727 => false,
+        Syntax::G728 => false,
         Syntax::G7231 => true,
-        _ => false,
+        Syntax::Data => false,
+        Syntax::Fax => false,
     }
 }
 
@@ -128,7 +143,7 @@ fn body_refusal(rec: Record, coding: u8, body: &[u8]) -> u8
     if codings <= coding {
         return refusal::CODING_TYPE_UNKNOWN;
     }
-    if body.len() == octets::wide(rec.m) * block_octets(syntax, coding) {
+    if body.len() == blocks_octets(rec.m, syntax, coding) {
         return refusal::SOUND;
     }
     refusal::LENGTH_WRONG
@@ -140,21 +155,27 @@ fn seq_front(seq: bool) -> usize
     if seq { 1 } else { 0 }
 }
 
+fn front_by(syntax: Syntax, seq: bool) -> usize
+    ensures { λ r. ⌜ r ≡ frontBy syntax seq ⌝ }
+{
+    let one = seq_front(seq);
+    match syntax {
+        Syntax::Acelp => one,
+        Syntax::Pcm => 1,
+        Syntax::G727 => 1,
+        Syntax::G728 => one,
+        Syntax::G7231 => one,
+        Syntax::Data => 0,
+        Syntax::Fax => 0,
+    }
+}
+
 // How many octets stand in front of the body.
 fn front_size(rec: Record) -> usize
     ensures { λ r. ⌜ r ≡ frontOf rec ⌝ }
 {
     let syntax = rec.syntax;
-    let seq = seq_front(rec.seq);
-    match syntax {
-        Syntax::Acelp => seq,
-        Syntax::Pcm => 1,
-        Syntax::G727 => 1,
-        Syntax::G728 => seq,
-        Syntax::G7231 => seq,
-        Syntax::Data => 0,
-        Syntax::Fax => 0,
-    }
+    front_by(syntax, rec.seq)
 }
 
 // Reads a voice payload.

@@ -1,0 +1,6 @@
+pub mod Order
+pub mod Sizes
+pub mod VoiceCases
+pub mod VoiceBack
+pub mod SidCases
+pub mod SidBack
