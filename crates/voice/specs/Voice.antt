@@ -34,6 +34,9 @@ codings G7231 = 1
 codings Data = 0
 codings Fax = 0
 
+abbrev pub voiceless : Syntax → Bool
+voiceless syntax = eqb (codings syntax) 0
+
 -- The octets of a coding type: of one of the m blocks.
 unfoldable pub blockOctets : Syntax → ℕ → ℕ
 blockOctets Acelp coding = 10
@@ -65,15 +68,12 @@ unfoldable pub bodyOctets : Record → ℕ → ℕ → ℕ
 bodyOctets r coding first = cond (isG7231 (r .syntax)) (g7231Octets first) (r .m * blockOctets (r .syntax) coding)
 
 -- How many octets stand in front: "For these three seq=1 puts one octet in front"; "the same front octet, always".
-abbrev pub seqFront : Bool → ℕ
-seqFront seq = cond seq 1 0
-
 abbrev pub frontBy : Syntax → Bool → ℕ
-frontBy Acelp seq = seqFront seq
+frontBy Acelp seq = cond seq 1 0
 frontBy Pcm seq = 1
 frontBy G727 seq = 1
-frontBy G728 seq = seqFront seq
-frontBy G7231 seq = seqFront seq
+frontBy G728 seq = cond seq 1 0
+frontBy G7231 seq = cond seq 1 0
 frontBy Data seq = 0
 frontBy Fax seq = 0
 
@@ -96,10 +96,6 @@ codingIn r payload = frontOctet r payload % 16
 
 abbrev pub bodyIn : Record → List ℕ → List ℕ
 bodyIn r payload = drop (frontOf r) payload
-
--- Data and fax carry no voice.
-abbrev pub voiceless : Syntax → Bool
-voiceless syntax = eqb (codings syntax) 0
 
 -- The refusals of a body with its coding type: 13 where the octet that decides its length is missing, 16, 14 for both flags, 13.
 abbrev pub bodyRefusals : Record → ℕ → List ℕ → List Test
