@@ -68,12 +68,15 @@ unfoldable pub bodyOctets : Record → ℕ → ℕ → ℕ
 bodyOctets r coding first = cond (isG7231 (r .syntax)) (g7231Octets first) (r .m * blockOctets (r .syntax) coding)
 
 -- How many octets stand in front: "For these three seq=1 puts one octet in front"; "the same front octet, always".
+abbrev pub seqFront : Bool → ℕ
+seqFront seq = cond seq 1 0
+
 abbrev pub frontBy : Syntax → Bool → ℕ
-frontBy Acelp seq = cond seq 1 0
+frontBy Acelp seq = seqFront seq
 frontBy Pcm seq = 1
 frontBy G727 seq = 1
-frontBy G728 seq = cond seq 1 0
-frontBy G7231 seq = cond seq 1 0
+frontBy G728 seq = seqFront seq
+frontBy G7231 seq = seqFront seq
 frontBy Data seq = 0
 frontBy Fax seq = 0
 

@@ -5,14 +5,14 @@ use octets::Put;
 use record::syntax::Record;
 use record::syntax::Syntax;
 ghost use mathlib.Core.Path.{_≡_};
-ghost use mathlib.Core.Bool.{true, cond};
+ghost use mathlib.Core.Bool.{true};
 ghost use lib.ListN.{getD};
 ghost use Prim.Native.Nat.{_*_, _<_};
 ghost use Rattle.octets.specs.Made.{fitOf, putMade, leftMade};
 ghost use mathlib.Core.List.{_∷_};
 ghost use Rattle.refusal.specs.Numbers.{sound, typeNotAllowed};
 ghost use Rattle.refusal.specs.Order.{_gives_, inOrder};
-ghost use Rattle.voice.specs.Voice.{codings, pcmOctets, g727Octets, blockOctets, g7231Octets, isG7231, frontBy, frontOf, voiceless, bodyRefusals, voiceRead, mostSequence, voiceMade};
+ghost use Rattle.voice.specs.Voice.{codings, pcmOctets, g727Octets, blockOctets, g7231Octets, isG7231, seqFront, frontBy, frontOf, voiceless, bodyRefusals, voiceRead, mostSequence, voiceMade};
 
 // The octets of a coding type, of Annex F and of Annex G.
 const PCM_OCTETS: [u8; 14] = [40, 35, 30, 40, 35, 30, 25, 20, 15, 10, 25, 20, 15, 10];
@@ -150,7 +150,7 @@ fn body_refusal(rec: Record, coding: u8, body: &[u8]) -> u8
 }
 
 fn seq_front(seq: bool) -> usize
-    ensures { λ r. ⌜ r ≡ cond seq 1 0 ⌝ }
+    ensures { λ r. ⌜ r ≡ seqFront seq ⌝ }
 {
     if seq { 1 } else { 0 }
 }
