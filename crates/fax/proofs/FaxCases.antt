@@ -1,138 +1,172 @@
--- What `judged`, `faxRead` and `faxMade` give in each of their cases.
-use Prim.Native.Nat.{ℕ, _+_, _-_, _<_, _≤_}
+-- What `faxRead` and `faxMade` give in each of their cases.
+use Prim.Native.Nat.{ℕ, _+_, _-_, _/_, _%_, _<_, _≤_}
 use mathlib.Core.Path.{_≡_, refl, sym, ap, _∙_}
-use mathlib.Core.List.{List, _++_}
-use mathlib.Core.Bool.{Bool, true, false, cond}
+use mathlib.Core.List.{List, [], _∷_, _++_}
 use mathlib.Core.Logic.{⊎-elim}
+use mathlib.Core.Bool.{Bool, true, false, not, _&&_}
 use native.Mathlib.Omega.{arith}
-use borrow.Author.Tests.{lt-ltb, le-ltb, eq-eqb, ne-eqb}
-use lib.Dec.{ltb}
-use lib.ListN.{length, getD, length-append}
-use Rattle.refusal.specs.Numbers.{lengthWrong, reservedCode, valueOutOfRange}
-use Rattle.octets.specs.declared.Fit.the-variants.{Octets}
-use Rattle.octets.specs.Made.{made, unmade, fitOf}
-use Rattle.octets.proofs.Order.{lt-or-le}
+use borrow.Author.Tests.{lt-ltb, le-ltb, eq-eqb, ne-eqb, not-false, ltb-false}
+use lib.Dec.{ltb, eqb}
+use lib.ListN.{length, take, length-append}
+use Rattle.refusal.specs.Numbers.{lengthWrong, reservedCode}
+use Rattle.refusal.specs.Order.{Test, _gives_}
+use Rattle.octets.specs.Made.{made, unmade}
+use Rattle.octets.proofs.Order.{lt-or-le, clash}
 use Rattle.octets.proofs.MadeBack.{never-made}
 use Rattle.fax.specs.declared.Stamp.{Stamp}
 use Rattle.fax.specs.declared.Stamp.the-variants.{NoStamp, Stamped}
 use Rattle.fax.specs.declared.Command.{Command}
-use Rattle.fax.specs.declared.Command.the-variants.{Off, On, Page, EndOfFrame, Abort}
+use Rattle.fax.specs.declared.Command.the-variants.{On}
 use Rattle.fax.specs.declared.FaxRead.the-variants.{Fax, BadFax}
-use Rattle.fax.specs.Fax.{unstamped, stampSize, commandSize, frontOf, bodySized, toneRefused, refusedOn, ei1In, sequenceIn, codeIn, stampIn, ei2In, commandIn, spareIn, judged, told, faxRead, stampNumber, stampOctets, commandOctets, headOctets, faxMade}
-use Rattle.fax.proofs.Tests as tests
+use Rattle.fax.specs.Fax.{firstOctet, onOctet, toneRefused, codeOf, commandOf, ei1In, onIn, timeIn, headOctets, frontOf, sequenceIn, codeIn, stampIn, ei2In, zeroBitsIn, commandIn, unstamped, bodySized, refusedOn, readRefusals, faxRead, stampNumber, writeRefusals, faxMade}
+use Rattle.fax.proofs.Commands.{Plain, plain, plain-front, code-back}
+use Rattle.fax.proofs.Order.{Stops, here, past, Passes, stopped, sounds, passed}
 
-module _ (n code ei2 spare sequence : ℕ) (stamp : Stamp) (command : Command) where
-  pub unknown : 4 < code → judged n code ei2 spare sequence stamp command ≡ BadFax reservedCode
-  unfolding judged
-  unknown h = simp (lt-ltb 4 code h)
-
-  module _ (known : code ≤ 4) where
-    pub lacks : unstamped stamp command ≡ true → judged n code ei2 spare sequence stamp command ≡ BadFax reservedCode
-    unfolding judged
-    lacks h = simp (le-ltb 4 code known, h)
-
-    module _ (front : ℕ) (is : front ≡ frontOf stamp command) (stamped : unstamped stamp command ≡ false) where
-      -- past the command with EI1
-      sized :
-          judged n code ei2 spare sequence stamp command
-          ≡ cond (ltb n front) (BadFax lengthWrong)
-          (cond (bodySized command (n - front))
-          (cond (ltb 0 ei2) (BadFax reservedCode)
-          (cond (ltb 0 spare) (BadFax reservedCode)
-          (cond (refusedOn command) (BadFax reservedCode)
-          (Fax sequence stamp command front))))
-          (BadFax lengthWrong))
-      unfolding judged
-      sized = simp (le-ltb 4 code known, stamped, is)
-
-      pub cut : n < front → judged n code ei2 spare sequence stamp command ≡ BadFax lengthWrong
-      cut h = sized ∙ simp (lt-ltb n front h)
-
-      module _ (whole : front ≤ n) where
-        pub wrong : bodySized command (n - front) ≡ false → judged n code ei2 spare sequence stamp command ≡ BadFax lengthWrong
-        wrong h = sized ∙ simp (le-ltb n front whole, h)
-
-        module _ (right-size : bodySized command (n - front) ≡ true) where
-          pub ei2-set : 0 < ei2 → judged n code ei2 spare sequence stamp command ≡ BadFax reservedCode
-          ei2-set h = sized ∙ simp (le-ltb n front whole, right-size, lt-ltb 0 ei2 h)
-
-          module _ (clear : ei2 ≤ 0) where
-            pub spare-set : 0 < spare → judged n code ei2 spare sequence stamp command ≡ BadFax reservedCode
-            spare-set h = sized ∙ simp (le-ltb n front whole, right-size, le-ltb 0 ei2 clear, lt-ltb 0 spare h)
-
-            module _ (free : spare ≤ 0) where
-              pub refused : refusedOn command ≡ true → judged n code ei2 spare sequence stamp command ≡ BadFax reservedCode
-              refused h = sized ∙ simp (le-ltb n front whole, right-size, le-ltb 0 ei2 clear, le-ltb 0 spare free, h)
-
-              pub right : refusedOn command ≡ false → judged n code ei2 spare sequence stamp command ≡ Fax sequence stamp command front
-              right h = sized ∙ simp (le-ltb n front whole, right-size, le-ltb 0 ei2 clear, le-ltb 0 spare free, h)
-
-module _ (payload : List ℕ) where
-  pub empty : length payload ≡ 0 → faxRead payload ≡ BadFax lengthWrong
+module _ (p : List ℕ) (stamp : Stamp) (command : Command) (st : stampIn p ≡ stamp) (co : commandIn p ≡ command) where
+  stops : {number : ℕ} → Stops (readRefusals p stamp command) number → faxRead p ≡ BadFax number
   unfolding faxRead
-  empty h = simp (eq-eqb (length payload) 0 h)
+  stops s = rw (st, co) (stopped BadFax _ s)
 
-  module _ (some : length payload ≡ 0 → ⊥) where
-    pub there :
-        faxRead payload
-        ≡ told (length payload) (getD payload 0 0) (getD payload 1 0) (getD payload 2 0) (getD payload 3 0) (getD payload 4 0) (getD payload 5 0)
-    unfolding faxRead
-    there = simp (ne-eqb (length payload) 0 some)
+  pub sound : Passes (readRefusals p stamp command) → faxRead p ≡ Fax (sequenceIn p) stamp command (frontOf stamp command)
+  unfolding faxRead
+  sound all = rw (st, co) (sounds BadFax _ (readRefusals p stamp command) all)
 
-    -- the same, by the values that the code has
-    pub there-by :
-        (first low high on toneLow toneHigh ei2 spare : ℕ) (stamp : Stamp) (command : Command)
-        → first ≡ getD payload 0 0
-        → low ≡ getD payload 1 0
-        → high ≡ getD payload 2 0
-        → on ≡ getD payload 3 0
-        → toneLow ≡ getD payload 4 0
-        → toneHigh ≡ getD payload 5 0
-        → stamp ≡ stampIn (ei1In first) low high
-        → ei2 ≡ ei2In (ei1In first) high
-        → command ≡ commandIn (codeIn first) on toneLow toneHigh
-        → spare ≡ spareIn (codeIn first) on
-        → faxRead payload ≡ judged (length payload) (codeIn first) ei2 spare (sequenceIn first) stamp command
-    unfolding told
-    there-by first low high on toneLow toneHigh ei2 spare stamp command a b c d e f g h i j =
-        there ∙ rw (← a, ← b, ← c, ← d, ← e, ← f, ← g, ← h, ← i, ← j)
+pub empty : (p : List ℕ) → length p ≡ 0 → faxRead p ≡ BadFax lengthWrong
+empty p h = stops p _ _ refl refl (here (eq-eqb (length p) 0 h))
 
-module _ (sequence : ℕ) (stamp : Stamp) (command : Command) (body : List ℕ) where
-  pub made-lacks : unstamped stamp command ≡ true → faxMade sequence stamp command body ≡ unmade reservedCode
-  unfolding faxMade
-  made-lacks h = simp h
+some-octets : (p : List ℕ) → 0 < length p → eqb (length p) 0 ≡ false
+some-octets p some = ne-eqb (length p) 0 (λ e. omega arith)
 
-  module _ (stamped : unstamped stamp command ≡ false) where
-    pub made-wrong : bodySized command (length body) ≡ false → faxMade sequence stamp command body ≡ unmade lengthWrong
-    unfolding faxMade
-    made-wrong h = simp (stamped, h)
+pub unknown : (p : List ℕ) → 0 < length p → 4 < codeIn p → faxRead p ≡ BadFax reservedCode
+unknown p some h = stops p _ _ refl refl (past (some-octets p some) (here (lt-ltb 4 (codeIn p) h)))
 
-    module _ (sized : bodySized command (length body) ≡ true) where
-      pub made-refused : refusedOn command ≡ true → faxMade sequence stamp command body ≡ unmade reservedCode
-      unfolding faxMade
-      made-refused h = simp (stamped, sized, h)
+code-is : (p : List ℕ) → codeIn p ≤ 4 → codeOf (commandIn p) ≡ codeIn p
+code-is p known = code-back (codeIn p) _ _ _ known
 
-      module _ (taken : refusedOn command ≡ false) where
-        pub made-beyond : 15 < sequence → faxMade sequence stamp command body ≡ unmade valueOutOfRange
-        unfolding faxMade
-        made-beyond h = simp (stamped, sized, taken, lt-ltb 15 sequence h)
+pub lacks : (p : List ℕ) → 0 < length p → codeIn p ≤ 4 → ei1In p ≡ false → ltb (codeIn p) 2 ≡ true → faxRead p ≡ BadFax reservedCode
+lacks p some known bare few =
+    let none : ltb (codeOf (commandIn p)) 2 ≡ true = rw (code-is p known) few in
+    stops p NoStamp (commandIn p) (rw bare) refl (past (some-octets p some) (past (le-ltb 4 (codeIn p) known) (here none)))
 
-        module _ (four-bits : sequence ≤ 15) where
-          pub made-late : 32767 < stampNumber stamp → faxMade sequence stamp command body ≡ unmade valueOutOfRange
-          unfolding faxMade
-          made-late h = simp (stamped, sized, taken, le-ltb 15 sequence four-bits, lt-ltb 32767 (stampNumber stamp) h)
+-- a payload of which the length is to be looked at
+pub record Fronted (p : List ℕ) (stamp : Stamp) (command : Command) (front : ℕ) : Type 0 where
+  pub some : 0 < length p
+  pub known : codeIn p ≤ 4
+  pub st : stampIn p ≡ stamp
+  pub co : commandIn p ≡ command
+  pub stamped : unstamped stamp command ≡ false
+  pub front-is : frontOf stamp command ≡ front
 
-          pub made-right : stampNumber stamp ≤ 32767 → faxMade sequence stamp command body ≡ made (headOctets sequence stamp command ++ body)
-          unfolding faxMade
-          made-right h = simp (stamped, sized, taken, le-ltb 15 sequence four-bits, le-ltb 32767 (stampNumber stamp) h)
+module _ {p : List ℕ} {stamp : Stamp} {command : Command} {front : ℕ} (f : Fronted p stamp command front) where
+  tells : {number : ℕ} → Stops (readRefusals p stamp command) number → faxRead p ≡ BadFax number
+  tells s = stops p stamp command (f .st) (f .co) s
 
--- a test goes one way or the other, and not both
-pub yes-or-no : {A : Type 0} (t : Bool) → (t ≡ true → A) → (t ≡ false → A) → A
-yes-or-no true f g = f refl
-yes-or-no false f g = g refl
+  -- past the first octet
+  begun : {ts : List Test} {number : ℕ}
+      → Stops ts number
+      → Stops (eqb (length p) 0 gives lengthWrong ∷ ltb 4 (codeIn p) gives reservedCode ∷ unstamped stamp command gives reservedCode ∷ ts) number
+  begun s = past (some-octets p (f .some)) (past (le-ltb 4 (codeIn p) (f .known)) (past (f .stamped) s))
 
-pub not-both : {A : Type 0} (t : Bool) → t ≡ true → t ≡ false → A
-not-both t p q = let z : _≡_ {A = ℕ} 0 1 = cc in absurd (omega arith)
+  pub cut : length p < front → faxRead p ≡ BadFax lengthWrong
+  cut h = tells (begun (here (rw (f .front-is) (lt-ltb (length p) front h))))
+
+  module _ (whole : front ≤ length p) where
+    long : ltb (length p) (frontOf stamp command) ≡ false
+    long = rw (f .front-is) (le-ltb (length p) front whole)
+
+    pub wrong : bodySized command (length p - front) ≡ false → faxRead p ≡ BadFax lengthWrong
+    wrong h = tells (begun (past long (here (rw (f .front-is, h)))))
+
+    module _ (sized : bodySized command (length p - front) ≡ true) where
+      fits : not (bodySized command (length p - frontOf stamp command)) ≡ false
+      fits = rw (f .front-is, sized)
+
+      pub ei2-set : ei2In p ≡ true → faxRead p ≡ BadFax reservedCode
+      ei2-set h = tells (begun (past long (past fits (here h))))
+
+      module _ (clear : ei2In p ≡ false) where
+        pub bits-set : (eqb (codeIn p) 1 && ltb 0 (zeroBitsIn p)) ≡ true → faxRead p ≡ BadFax reservedCode
+        bits-set h = tells (begun (past long (past fits (past clear (here h)))))
+
+        module _ (free : (eqb (codeIn p) 1 && ltb 0 (zeroBitsIn p)) ≡ false) where
+          pub refused : refusedOn command ≡ true → faxRead p ≡ BadFax reservedCode
+          refused h = tells (begun (past long (past fits (past clear (past free (here h))))))
+
+          pub right : refusedOn command ≡ false → faxRead p ≡ Fax (sequenceIn p) stamp command front
+          right h =
+              sound p stamp command (f .st) (f .co)
+              (some-octets p (f .some), (le-ltb 4 (codeIn p) (f .known), (f .stamped, (long, (fits, (clear, (free, (h, tt))))))))
+              ∙ ap (Fax (sequenceIn p) stamp command) (f .front-is)
+
+-- the command on: six octets
+module _ (p : List ℕ) (some : 0 < length p) (one : codeIn p ≡ 1) (ei1 : ei1In p ≡ true) where
+  pub on-fronted : Fronted p (Stamped (timeIn p)) (onIn p) 6
+  unfolding frontOf commandOf
+  on-fronted = record { some = some; known = omega arith; st = rw ei1; co = rw one; stamped = refl; front-is = refl }
+
+  pub not-six : (length p ≡ 6 → ⊥) → faxRead p ≡ BadFax lengthWrong
+  unfolding bodySized
+  not-six h =
+      ⊎-elim (λ less. cut on-fronted less) (λ least. wrong on-fronted least (ne-eqb (length p - 6) 0 (λ e. h (omega arith)))) (lt-or-le (length p) 6)
+
+  module _ (six : length p ≡ 6) where
+    sized : bodySized (onIn p) (length p - 6) ≡ true
+    unfolding bodySized
+    sized = rw six
+
+    pub on-ei2 : ei2In p ≡ true → faxRead p ≡ BadFax reservedCode
+    on-ei2 h = ei2-set on-fronted (omega arith) sized h
+
+    module _ (clear : ei2In p ≡ false) where
+      pub on-bits : (zeroBitsIn p ≡ 0 → ⊥) → faxRead p ≡ BadFax reservedCode
+      on-bits h = bits-set on-fronted (omega arith) sized clear (simp (one, lt-ltb 0 (zeroBitsIn p) (omega arith)))
+
+      module _ (zeros : zeroBitsIn p ≡ 0) where
+        pub on-refused : refusedOn (onIn p) ≡ true → faxRead p ≡ BadFax reservedCode
+        on-refused h = refused on-fronted (omega arith) sized clear (simp (one, zeros)) h
+
+        pub on-right : refusedOn (onIn p) ≡ false → faxRead p ≡ Fax (sequenceIn p) (Stamped (timeIn p)) (onIn p) 6
+        on-right h = right on-fronted (omega arith) sized clear (simp (one, zeros)) h
+
+-- a command that has no octets of its own, without a stamp and with it
+module _ (p : List ℕ) (some : 0 < length p) (known : codeIn p ≤ 4) (other : codeIn p ≡ 1 → ⊥) (command : Command)
+    (is : (on : Command) → command ≡ commandOf (codeIn p) on) where
+  code : codeOf command ≡ codeIn p
+  code = ap codeOf (is (onIn p)) ∙ code-is p known
+
+  has : Plain command
+  has = plain command (λ e. other (sym code ∙ e))
+
+  pub bare-fronted : ei1In p ≡ false → ltb (codeIn p) 2 ≡ false → Fronted p NoStamp command 1
+  bare-fronted ei1 h =
+      record {
+        some = some;
+        known = known;
+        st = rw ei1;
+        co = sym (is (onIn p));
+        stamped = rw code h;
+        front-is = plain-front NoStamp command has;
+      }
+
+  pub stamped-fronted : ei1In p ≡ true → Fronted p (Stamped (timeIn p)) command 3
+  stamped-fronted ei1 =
+      record {
+        some = some;
+        known = known;
+        st = rw ei1;
+        co = sym (is (onIn p));
+        stamped = refl;
+        front-is = plain-front (Stamped (timeIn p)) command has;
+      }
+
+  -- the tests of the command on
+  pub plain-right : {stamp : Stamp} {front : ℕ}
+      → Fronted p stamp command front
+      → front ≤ length p
+      → bodySized command (length p - front) ≡ true
+      → ei2In p ≡ false
+      → faxRead p ≡ Fax (sequenceIn p) stamp command front
+  plain-right f whole sized clear = right f whole sized clear (simp (ne-eqb (codeIn p) 1 other)) (has .taken)
 
 -- what is made passed every test
 pub record Passed (sequence : ℕ) (stamp : Stamp) (command : Command) (body : List ℕ) : Type 0 where
@@ -142,69 +176,67 @@ pub record Passed (sequence : ℕ) (stamp : Stamp) (command : Command) (body : L
   pub four-bits : sequence ≤ 15
   pub in-range : stampNumber stamp ≤ 32767
 
-module _ (sequence : ℕ) (stamp : Stamp) (command : Command) (body octets : List ℕ) (e : faxMade sequence stamp command body ≡ made octets) where
-  pub passed : Passed sequence stamp command body
-  passed =
-      let st : unstamped stamp command ≡ false =
-      yes-or-no (unstamped stamp command) (λ h. never-made _ _ _ (made-lacks sequence stamp command body h) e) (λ h. h)
+module _ (sequence : ℕ) (stamp : Stamp) (command : Command) (body : List ℕ) where
+  pub made-stops : {number : ℕ} → Stops (writeRefusals sequence stamp command body) number → faxMade sequence stamp command body ≡ unmade number
+  unfolding faxMade
+  made-stops s = stopped unmade _ s
+
+  pub made-right :
+      unstamped stamp command ≡ false
+      → bodySized command (length body) ≡ true
+      → refusedOn command ≡ false
+      → sequence ≤ 15
+      → stampNumber stamp ≤ 32767
+      → faxMade sequence stamp command body ≡ made (headOctets sequence stamp command ++ body)
+  unfolding faxMade
+  made-right stamped sized taken four-bits in-range =
+      sounds unmade _ (writeRefusals sequence stamp command body)
+      (stamped, (rw sized, (taken, (le-ltb 15 sequence four-bits, (le-ltb 32767 (stampNumber stamp) in-range, tt)))))
+
+  pub is-made : Passed sequence stamp command body → faxMade sequence stamp command body ≡ made (headOctets sequence stamp command ++ body)
+  is-made p = made-right (p .stamped) (p .sized) (p .taken) (p .four-bits) (p .in-range)
+
+  pub passed-all : (octets : List ℕ) → faxMade sequence stamp command body ≡ made octets → Passed sequence stamp command body
+  unfolding faxMade
+  passed-all octets e =
+      let tests =
+      passed unmade _ (writeRefusals sequence stamp command body) (made octets) (λ n r. never-made (unmade n) n octets refl r) e .0
       in
-      let si : bodySized command (length body) ≡ true =
-      yes-or-no (bodySized command (length body)) (λ h. h) (λ h. never-made _ _ _ (made-wrong sequence stamp command body st h) e)
-      in
-      let ta : refusedOn command ≡ false =
-      yes-or-no (refusedOn command) (λ h. never-made _ _ _ (made-refused sequence stamp command body st si h) e) (λ h. h)
-      in
-      let fo : sequence ≤ 15 =
-      ⊎-elim (λ h. never-made _ _ _ (made-beyond sequence stamp command body st si ta h) e) (λ h. h) (lt-or-le 15 sequence)
-      in
-      let ra : stampNumber stamp ≤ 32767 =
-      ⊎-elim (λ h. never-made _ _ _ (made-late sequence stamp command body st si ta fo h) e) (λ h. h) (lt-or-le 32767 (stampNumber stamp))
-      in
-      record { stamped = st; sized = si; taken = ta; four-bits = fo; in-range = ra }
+      record {
+        stamped = tests .0;
+        sized = not-false _ (tests .1 .0);
+        taken = tests .1 .1 .0;
+        four-bits = ltb-false 15 sequence (tests .1 .1 .1 .0);
+        in-range = ltb-false 32767 (stampNumber stamp) (tests .1 .1 .1 .1 .0);
+      }
 
 pub head-size : (sequence : ℕ) (stamp : Stamp) (command : Command) → length (headOctets sequence stamp command) ≡ frontOf stamp command
 unfolding frontOf
-head-size sequence NoStamp Off = refl
-head-size sequence NoStamp (On h m f) = refl
-head-size sequence NoStamp Page = refl
-head-size sequence NoStamp EndOfFrame = refl
-head-size sequence NoStamp Abort = refl
-head-size sequence (Stamped t) Off = refl
-head-size sequence (Stamped t) (On h m f) = refl
-head-size sequence (Stamped t) Page = refl
-head-size sequence (Stamped t) EndOfFrame = refl
-head-size sequence (Stamped t) Abort = refl
+head-size sequence stamp command = simp length-append (omega arith)
 
-pub front-is : (stamp : Stamp) (command : Command) → frontOf stamp command ≡ 1 + stampSize stamp + commandSize command
+-- the octets in front, out of an array of six
+pub on-head :
+    (sequence : ℕ) (stamp : Stamp) (hdlc : Bool) (modulation frequency : ℕ)
+    → unstamped stamp (On hdlc modulation frequency) ≡ false
+    → let command = On hdlc modulation frequency in
+    let time = stampNumber stamp in
+    take (frontOf stamp command)
+    (firstOctet sequence stamp command ∷ (time % 256) ∷ (time / 256) ∷ onOctet hdlc modulation ∷ (frequency % 256) ∷ (frequency / 256) ∷ [])
+    ≡ headOctets sequence stamp command
 unfolding frontOf
-front-is stamp command = refl
+on-head sequence NoStamp h m f stamped = clash true refl stamped
+on-head sequence (Stamped time) h m f stamped = refl
 
-pub head-some : (sequence : ℕ) (stamp : Stamp) (command : Command) (body : List ℕ) → 1 ≤ length (headOctets sequence stamp command ++ body)
-head-some sequence stamp command body = omega arith
-
-pub fit-right :
-    (sequence : ℕ) (stamp : Stamp) (command : Command) (body : List ℕ) (front : ℕ)
-    → front ≡ frontOf stamp command
-    → Passed sequence stamp command body
-    → fitOf (faxMade sequence stamp command body) ≡ Octets (front + length body)
-fit-right sequence stamp command body front is p =
-    let many : length (headOctets sequence stamp command ++ body) ≡ front + length body =
-    length-append (headOctets sequence stamp command) body ∙ ap (λ (k : ℕ). k + length body) (head-size sequence stamp command ∙ sym is)
-    in
-    ap fitOf (made-right sequence stamp command body (p .stamped) (p .sized) (p .taken) (p .four-bits) (p .in-range)) ∙ ap Octets many
+pub plain-head :
+    (sequence : ℕ) (stamp : Stamp) (command : Command)
+    → Plain command
+    → let time = stampNumber stamp in
+    take (frontOf stamp command) (firstOctet sequence stamp command ∷ (time % 256) ∷ (time / 256) ∷ 0 ∷ 0 ∷ 0 ∷ []) ≡ headOctets sequence stamp command
+plain-head sequence NoStamp command p = rw (plain-front NoStamp command p, p .none)
+plain-head sequence (Stamped time) command p = rw (plain-front (Stamped time) command p, p .none)
 
 -- the modulation of a command that is not refused
-pub modulation-small : (m f : ℕ) → toneRefused m f ≡ false → m ≤ 11
-modulation-small m f free = ⊎-elim (λ h. not-both (toneRefused m f) (tests.beyond m f h) free) (λ h. h) (lt-or-le 11 m)
-
--- the octets of a stamp, and of a command
-pub stamp-length : (stamp : Stamp) → length (stampOctets stamp) ≡ stampSize stamp
-stamp-length NoStamp = refl
-stamp-length (Stamped time) = refl
-
-pub command-length : (command : Command) → length (commandOctets command) ≡ commandSize command
-command-length Off = refl
-command-length (On hdlc modulation frequency) = refl
-command-length Page = refl
-command-length EndOfFrame = refl
-command-length Abort = refl
+pub modulation-small : (modulation frequency : ℕ) → toneRefused modulation frequency ≡ false → modulation ≤ 11
+unfolding toneRefused
+modulation-small m f free =
+    ⊎-elim (λ h. clash (toneRefused m f) (simp (lt-ltb 11 m h)) free) (λ h. h) (lt-or-le 11 m)

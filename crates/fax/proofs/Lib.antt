@@ -1,4 +1,6 @@
+pub mod Order
 pub mod Tests
+pub mod Commands
 pub mod FaxCases
 pub mod MadeReads
 pub mod ReadMakes

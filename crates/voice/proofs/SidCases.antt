@@ -1,63 +1,53 @@
 -- What `sidRead` and `sidMade` give in each of their cases.
-use Prim.Native.Nat.{ℕ, _/_, _<_, _≤_}
-use mathlib.Core.Path.{_≡_}
+use Prim.Native.Nat.{ℕ, _≤_}
+use mathlib.Core.Path.{_≡_, refl, sym}
 use mathlib.Core.List.{List}
-use borrow.Author.Tests.{lt-ltb, le-ltb, eq-eqb, ne-eqb}
-use lib.ListN.{length, getD}
+use mathlib.Core.Bool.{true, false}
+use borrow.Author.Tests.{ltb-false}
 use lib.IntN.{ℤ}
-use Rattle.refusal.specs.Numbers.{typeNotAllowed, lengthWrong, valueOutOfRange}
-use Rattle.octets.specs.Made.{unmade}
+use Rattle.octets.proofs.Order.{clash}
+use Rattle.octets.proofs.MadeBack.{never-made, same-made}
+use Rattle.octets.specs.Made.{made, unmade}
 use Rattle.counts.specs.declared.VoiceCount.{VoiceCount}
-use Rattle.levels.specs.Level.{levelOf, codeOf}
+use Rattle.levels.specs.declared.Coded.{Coded}
+use Rattle.levels.specs.declared.Coded.the-variants.{Code, Above, Below}
 use Rattle.record.specs.declared.syntax.Syntax.{Syntax}
-use Rattle.voice.specs.Voice.{codings}
 use Rattle.voice.specs.declared.sid.Sid.{Sid}
-use Rattle.voice.specs.declared.sid.Sid.the-variants.{Noise, Plain}
+use Rattle.voice.specs.declared.sid.Sid.the-variants.{Noise}
 use Rattle.voice.specs.declared.sid.SidRead.the-variants.{Silence, BadSid}
-use Rattle.voice.specs.Sid.{sidOctets, sidRead, noiseMade, withNoise, withoutNoise, sidMade}
+use Rattle.voice.specs.Sid.{sidIn, readRefusals, sidRead, outOfRange, magnitudeIn, writeRefusals, octetsFor, sidMade}
+use Rattle.voice.proofs.Order.{Stops, Passes, stopped, sounds, passed}
 
 module _ (syntax : Syntax) (payload : List ℕ) where
-  pub no-voice : codings syntax ≡ 0 → sidRead syntax payload ≡ BadSid typeNotAllowed
+  pub stops : {number : ℕ} → Stops (readRefusals syntax payload) number → sidRead syntax payload ≡ BadSid number
   unfolding sidRead
-  no-voice h = simp (eq-eqb (codings syntax) 0 h)
+  stops s = stopped BadSid _ s
 
-  module _ (voice : codings syntax ≡ 0 → ⊥) where
-    pub wrong : (length payload ≡ sidOctets syntax → ⊥) → sidRead syntax payload ≡ BadSid lengthWrong
-    unfolding sidRead
-    wrong h = simp (ne-eqb (codings syntax) 0 voice, ne-eqb (length payload) (sidOctets syntax) h)
-
-    module _ (whole : length payload ≡ sidOctets syntax) where
-      pub empty : sidOctets syntax ≡ 0 → sidRead syntax payload ≡ Silence Plain
-      unfolding sidRead
-      empty h =
-          simp
-          (ne-eqb (codings syntax) 0 voice, eq-eqb (length payload) (sidOctets syntax) whole, eq-eqb (sidOctets syntax) 0 h)
-
-      pub noise :
-          (sidOctets syntax ≡ 0 → ⊥)
-          → sidRead syntax payload ≡ Silence (Noise (record { 0 = getD payload 0 0 / 16 }) (levelOf (getD payload 1 0)))
-      unfolding sidRead
-      noise h =
-          simp
-          (ne-eqb (codings syntax) 0 voice, eq-eqb (length payload) (sidOctets syntax) whole, ne-eqb (sidOctets syntax) 0 h)
+  pub reads : Passes (readRefusals syntax payload) → sidRead syntax payload ≡ Silence (sidIn syntax payload)
+  unfolding sidRead
+  reads all = sounds BadSid _ (readRefusals syntax payload) all
 
 module _ (syntax : Syntax) (sid : Sid) where
-  pub made-no-voice : codings syntax ≡ 0 → sidMade syntax sid ≡ unmade typeNotAllowed
+  pub made-stops : {number : ℕ} → Stops (writeRefusals syntax sid) number → sidMade syntax sid ≡ unmade number
   unfolding sidMade
-  made-no-voice h = simp (eq-eqb (codings syntax) 0 h)
+  made-stops s = stopped unmade _ s
 
-  module _ (voice : codings syntax ≡ 0 → ⊥) where
-    pub made-without : sidOctets syntax ≡ 0 → sidMade syntax sid ≡ withoutNoise sid
-    unfolding sidMade
-    made-without h = simp (ne-eqb (codings syntax) 0 voice, eq-eqb (sidOctets syntax) 0 h)
+  pub makes : Passes (writeRefusals syntax sid) → sidMade syntax sid ≡ made (octetsFor sid)
+  unfolding sidMade
+  makes all = sounds unmade _ (writeRefusals syntax sid) all
 
-    pub made-with : (sidOctets syntax ≡ 0 → ⊥) → sidMade syntax sid ≡ withNoise sid
-    unfolding sidMade
-    made-with h = simp (ne-eqb (codings syntax) 0 voice, ne-eqb (sidOctets syntax) 0 h)
+  pub made-passed : (octets : List ℕ) → sidMade syntax sid ≡ made octets → Passes (writeRefusals syntax sid) × (octetsFor sid ≡ octets)
+  unfolding sidMade
+  made-passed octets e =
+      let all = passed unmade _ (writeRefusals syntax sid) (made octets) (λ n m. never-made (unmade n) n octets refl m) e in
+      (all .0, same-made (made octets) (octetsFor sid) octets (sym (all .1)) refl)
 
-module _ (sequence : VoiceCount) (level : ℤ) where
-  pub beyond : 15 < sequence .0 → withNoise (Noise sequence level) ≡ unmade valueOutOfRange
-  beyond h = simp (lt-ltb 15 (sequence .0) h)
+-- a sequence that is written has four bits
+pub four-bits : (syntax : Syntax) (s : VoiceCount) (z : ℤ) (octets : List ℕ) → sidMade syntax (Noise s z) ≡ made octets → s .0 ≤ 15
+four-bits syntax s z octets e = ltb-false 15 (s .0) (made-passed syntax (Noise s z) octets e .0 .1 .1 .0)
 
-  pub within : sequence .0 ≤ 15 → withNoise (Noise sequence level) ≡ noiseMade (sequence .0) (codeOf 63 level)
-  within h = simp (le-ltb 15 (sequence .0) h)
+-- a level in range has its magnitude
+pub in-range : (c : Coded) → outOfRange c ≡ false → c ≡ Code (magnitudeIn c)
+in-range (Code magnitude) h = refl
+in-range Above h = clash true refl h
+in-range Below h = clash true refl h

@@ -1,19 +1,17 @@
--- The sizes of voice payloads: their cases and bounds.
-use Prim.Native.Nat.{ℕ, zero, suc, _+_, _*_, _%_, _≤_}
+-- The sizes of voice payloads: their bounds.
+use Prim.Native.Nat.{ℕ, zero, suc, _≤_, _<_}
 use mathlib.Core.Path.{_≡_, refl}
 use mathlib.Core.Bool.{Bool, true, false, cond}
-use mathlib.Core.List.{List, [], _∷_, _++_}
-use mathlib.Core.Logic.{⊎-elim}
+use mathlib.Core.List.{[], _∷_}
 use native.Mathlib.Omega.{arith}
-use borrow.Author.Tests.{eq-eqb, ne-eqb}
 use lib.Dec.{eqb}
-use lib.ListN.{length, length-append}
-use Rattle.octets.proofs.Order.{eq-or-ne}
+use lib.ListN.{length, take}
+use Rattle.octets.proofs.Order.{clash}
 use Rattle.octets.proofs.Table.{entries}
 use Rattle.record.specs.declared.syntax.Syntax.{Syntax}
 use Rattle.record.specs.declared.syntax.Syntax.the-variants.{Acelp, Pcm, G727, G728, G7231, Data, Fax}
 use Rattle.record.specs.declared.syntax.Record.{Record}
-use Rattle.voice.specs.Voice.{codings, mostSequence, pcmOctets, g727Octets, blockOctets, g7231Octets, isG7231, bodyOctets, frontBy, frontOf, deciding}
+use Rattle.voice.specs.Voice.{codings, pcmOctets, g727Octets, blockOctets, isG7231, frontBy, frontOf, voiceless, mostSequence}
 
 pub block-small : (syntax : Syntax) (coding : ℕ) → blockOctets syntax coding ≤ 40
 unfolding blockOctets
@@ -25,58 +23,6 @@ block-small G7231 coding = omega arith
 block-small Data coding = omega arith
 block-small Fax coding = omega arith
 
-pub g7231-small : (first : ℕ) → g7231Octets first ≤ 24
-unfolding g7231Octets
-g7231-small first =
-    ⊎-elim (λ e. simp (eq-eqb (first % 2) 0 e) (omega arith)) (λ ne. simp (ne-eqb (first % 2) 0 ne) (omega arith)) (eq-or-ne (first % 2) 0)
-
-module _ (r : Record) (coding first : ℕ) where
-  pub one-frame : isG7231 (r .syntax) ≡ true → bodyOctets r coding first ≡ g7231Octets first
-  unfolding bodyOctets
-  one-frame e = rw e
-
-  pub blocks : isG7231 (r .syntax) ≡ false → bodyOctets r coding first ≡ r .m * blockOctets (r .syntax) coding
-  unfolding bodyOctets
-  blocks e = rw e
-
-front-by : (syntax : Syntax) (seq : Bool) → frontBy syntax seq ≤ 1
-front-by Acelp true = omega arith
-front-by Acelp false = omega arith
-front-by Pcm seq = omega arith
-front-by G727 seq = omega arith
-front-by G728 true = omega arith
-front-by G728 false = omega arith
-front-by G7231 true = omega arith
-front-by G7231 false = omega arith
-front-by Data seq = omega arith
-front-by Fax seq = omega arith
-
-pub front-small : (r : Record) → frontOf r ≤ 1
-unfolding frontOf
-front-small r = front-by (r .syntax) (r .seq)
-
-pub deciding-small : (syntax : Syntax) → deciding syntax ≤ 1
-deciding-small Acelp = omega arith
-deciding-small Pcm = omega arith
-deciding-small G727 = omega arith
-deciding-small G728 = omega arith
-deciding-small G7231 = omega arith
-deciding-small Data = omega arith
-deciding-small Fax = omega arith
-
--- the front octets, where there are any
-pub front-length : (front x : ℕ) → front ≤ 1 → length (cond (eqb front 0) [] (x ∷ [])) ≡ front
-front-length zero x h = refl
-front-length (suc zero) x h = refl
-front-length (suc (suc n)) x h = absurd (omega arith)
-
-pub whole-length :
-    (front x n : ℕ) (body : List ℕ)
-    → front ≤ 1
-    → length body ≡ n
-    → front + n ≡ length (cond (eqb front 0) [] (x ∷ []) ++ body)
-whole-length front x n body h e = simp (length-append, front-length front x h, e)
-
 pub codings-small : (syntax : Syntax) → codings syntax ≤ 15
 codings-small Acelp = omega arith
 codings-small Pcm = omega arith
@@ -85,6 +31,54 @@ codings-small G728 = omega arith
 codings-small G7231 = omega arith
 codings-small Data = omega arith
 codings-small Fax = omega arith
+
+pub frame-coding : (syntax : Syntax) → isG7231 syntax ≡ true → codings syntax ≡ 1
+frame-coding Acelp e = refl
+frame-coding Pcm e = clash false e refl
+frame-coding G727 e = clash false e refl
+frame-coding G728 e = refl
+frame-coding G7231 e = refl
+frame-coding Data e = clash false e refl
+frame-coding Fax e = clash false e refl
+
+-- what a front octet, or none, says of a syntax
+record Front (syntax : Syntax) (front : ℕ) : Type 0 where
+  one : front ≤ 1
+  voice : 0 < front → voiceless syntax ≡ false
+  bare : front ≡ 0 → codings syntax ≤ 1
+
+seq-front : (syntax : Syntax) (seq : Bool) → codings syntax ≡ 1 → Front syntax (cond seq 1 0)
+seq-front syntax true e = record { one = omega arith; voice = λ h. rw e; bare = λ h. omega arith }
+seq-front syntax false e = record { one = omega arith; voice = λ h. rw e; bare = λ h. omega arith }
+
+front-by : (syntax : Syntax) (seq : Bool) → Front syntax (frontBy syntax seq)
+front-by Acelp seq = seq-front Acelp seq refl
+front-by Pcm seq = record { one = omega arith; voice = λ h. refl; bare = λ h. absurd (omega arith) }
+front-by G727 seq = record { one = omega arith; voice = λ h. refl; bare = λ h. absurd (omega arith) }
+front-by G728 seq = seq-front G728 seq refl
+front-by G7231 seq = seq-front G7231 seq refl
+front-by Data seq = record { one = omega arith; voice = λ h. absurd (omega arith); bare = λ h. omega arith }
+front-by Fax seq = record { one = omega arith; voice = λ h. absurd (omega arith); bare = λ h. omega arith }
+
+pub front-small : (r : Record) → frontOf r ≤ 1
+unfolding frontOf
+front-small r = front-by (r .syntax) (r .seq) .one
+
+-- only a syntax with voice has a front octet
+pub fronted-voice : (r : Record) → 0 < frontOf r → voiceless (r .syntax) ≡ false
+unfolding frontOf
+fronted-voice r h = front-by (r .syntax) (r .seq) .voice h
+
+-- without a front octet the coding type can only be 0
+pub bare-coding : (r : Record) → frontOf r ≡ 0 → codings (r .syntax) ≤ 1
+unfolding frontOf
+bare-coding r e = front-by (r .syntax) (r .seq) .bare e
+
+-- the front octets
+pub front-length : (front x : ℕ) → front ≤ 1 → length (take front (x ∷ [])) ≡ front
+front-length zero x h = refl
+front-length (suc zero) x h = refl
+front-length (suc (suc n)) x h = absurd (omega arith)
 
 pub most-small : (front : ℕ) → mostSequence front ≤ 15
 most-small front = either-way (eqb front 0)

@@ -1,182 +1,199 @@
 -- What `voiceRead` and `voiceMade` give in each of their cases.
-use Prim.Native.Nat.{ℕ, _+_, _*_, _/_, _%_, _<_, _≤_}
-use mathlib.Core.Path.{_≡_, refl, sym, ap, _∙_}
-use mathlib.Core.List.{List, [], _∷_, _++_}
-use mathlib.Core.Bool.{Bool, true, false, cond, _&&_}
-use mathlib.Core.Logic.{_⊎_, inl, inr, ⊎-elim}
-use borrow.Author.Tests.{lt-ltb, le-ltb, le-leb, lt-leb, eq-eqb, ne-eqb}
-use lib.Dec.{eqb}
-use lib.ListN.{length, getD}
-use Rattle.octets.proofs.Order.{lt-or-le, eq-or-ne}
+use Prim.Native.Nat.{ℕ, _+_, _-_, _*_, _/_, _%_, _<_, _≤_}
+use mathlib.Core.Path.{_≡_, refl, ap, _∙_}
+use mathlib.Core.List.{List, _∷_, _++_}
+use mathlib.Core.Bool.{true, false, cond, _&&_}
+use native.Mathlib.Omega.{arith}
+use borrow.Author.Tests.{lt-ltb, le-ltb, le-leb, lt-leb, eq-eqb, ne-eqb, ltb-false, leb-false}
+use lib.Dec.{ltb, leb, eqb}
+use lib.ListN.{length, getD, take, drop, length-drop, length-append}
+use lib.Seq.{take-all}
 use Rattle.octets.proofs.MadeBack.{never-made}
-use Rattle.refusal.specs.Numbers.{typeNotAllowed, lengthWrong, reservedCode, valueOutOfRange, codingTypeUnknown}
+use Rattle.refusal.specs.Numbers.{sound, typeNotAllowed, lengthWrong, reservedCode, valueOutOfRange, codingTypeUnknown}
+use Rattle.refusal.specs.Order.{_gives_}
 use Rattle.octets.specs.Made.{made, unmade}
 use Rattle.record.specs.declared.syntax.Record.{Record}
 use Rattle.voice.specs.declared.voice.VoiceRead.the-variants.{Voice, BadVoice}
-use Rattle.voice.specs.Voice.{codings, bothFlags, isG7231, bodyOctets, frontOf, deciding, frontOctet, judged, voiceRead, mostSequence, voiceMade}
+use Rattle.voice.specs.Voice.{codings, blockOctets, bothFlags, g7231Octets, isG7231, bodyOctets, frontOf, deciding, frontOctet, sequenceIn, codingIn, bodyIn, voiceless, bodyRefusals, voiceRead, mostSequence, writeRefusals, frontOctets, voiceMade}
+use Rattle.voice.proofs.Order.{Stops, here, past, Passes, stopped, sounds, passed, numberOf, by-number}
+use Rattle.voice.proofs.Sizes as sizes
 
-module _ (r : Record) (front o first n : ℕ) where
-  pub unknown : codings (r .syntax) ≤ o % 16 → judged r front o first n ≡ BadVoice codingTypeUnknown
-  unfolding judged
-  unknown h = simp (le-leb (codings (r .syntax)) (o % 16) h)
+tells : (r : Record) (coding : ℕ) (body : List ℕ) {number : ℕ} → Stops (bodyRefusals r coding body) number → numberOf (bodyRefusals r coding body) ≡ number
+tells r coding body s = stopped (λ n. n) 0 s
 
-  module _ (known : o % 16 < codings (r .syntax)) where
-    pub reserved : (isG7231 (r .syntax) && bothFlags first) ≡ true → judged r front o first n ≡ BadVoice reservedCode
-    unfolding judged
-    reserved h = simp (lt-leb (codings (r .syntax)) (o % 16) known, h)
+-- one G.723.1 frame
+module _ (r : Record) (coding : ℕ) (body : List ℕ) (frame : isG7231 (r .syntax) ≡ true) where
+  pub frame-missing : length body ≡ 0 → numberOf (bodyRefusals r coding body) ≡ lengthWrong
+  frame-missing h = tells r coding body (here (rw (frame, h)))
 
-    module _ (free : (isG7231 (r .syntax) && bothFlags first) ≡ false) where
-      pub right :
-          n ≡ front + bodyOctets r (o % 16) first → judged r front o first n ≡ Voice (record { 0 = o / 16 }) (o % 16) front
-      unfolding judged
-      right h = simp (lt-leb (codings (r .syntax)) (o % 16) known, free, eq-eqb n (front + bodyOctets r (o % 16) first) h)
+  module _ (some : length body ≡ 0 → ⊥) where
+    there : ltb (length body) (deciding (r .syntax)) ≡ false
+    there = rw frame (le-ltb (length body) 1 (omega arith))
 
-      pub wrong : (n ≡ front + bodyOctets r (o % 16) first → ⊥) → judged r front o first n ≡ BadVoice lengthWrong
-      unfolding judged
-      wrong h = simp (lt-leb (codings (r .syntax)) (o % 16) known, free, ne-eqb n (front + bodyOctets r (o % 16) first) h)
+    pub frame-unknown : (coding ≡ 0 → ⊥) → numberOf (bodyRefusals r coding body) ≡ codingTypeUnknown
+    frame-unknown h = tells r coding body (past there (here (rw (sizes.frame-coding (r .syntax) frame) (le-leb 1 coding (omega arith)))))
 
-module _ (r : Record) (payload : List ℕ) where
-  pub no-voice : codings (r .syntax) ≡ 0 → voiceRead r payload ≡ BadVoice typeNotAllowed
-  unfolding voiceRead
-  no-voice h = simp (eq-eqb (codings (r .syntax)) 0 h)
+    module _ (first-coding : coding ≡ 0) where
+      known : leb (codings (r .syntax)) coding ≡ false
+      known = rw (sizes.frame-coding (r .syntax) frame, first-coding)
 
-  module _ (voice : codings (r .syntax) ≡ 0 → ⊥) where
-    pub missing : length payload < frontOf r + deciding (r .syntax) → voiceRead r payload ≡ BadVoice lengthWrong
-    unfolding voiceRead
-    missing h = simp (ne-eqb (codings (r .syntax)) 0 voice, lt-ltb (length payload) (frontOf r + deciding (r .syntax)) h)
+      pub frame-reserved : getD body 0 0 % 4 ≡ 3 → numberOf (bodyRefusals r coding body) ≡ reservedCode
+      frame-reserved h = tells r coding body (past there (past known (here (rw (frame, h)))))
 
-    pub there :
-        frontOf r + deciding (r .syntax) ≤ length payload
-        → voiceRead r payload
-        ≡ judged r (frontOf r) (frontOctet (frontOf r) payload) (getD payload (frontOf r) 0) (length payload)
-    unfolding voiceRead
-    there h = simp (ne-eqb (codings (r .syntax)) 0 voice, le-ltb (length payload) (frontOf r + deciding (r .syntax)) h)
+      module _ (free : getD body 0 0 % 4 ≡ 3 → ⊥) where
+        unflagged : (isG7231 (r .syntax) && bothFlags (getD body 0 0)) ≡ false
+        unflagged = rw frame (ne-eqb (getD body 0 0 % 4) 3 free)
 
-    -- the same, by the numbers that the code has
-    pub there-by :
-        (front o first : ℕ)
-        → frontOf r + deciding (r .syntax) ≤ length payload
-        → front ≡ frontOf r
-        → o ≡ cond (eqb front 0) 0 (getD payload 0 0)
-        → first ≡ getD payload front 0
-        → voiceRead r payload ≡ judged r front o first (length payload)
-    there-by front o first h p q s =
-        there h
-        ∙ sym (ap (λ (k : ℕ). judged r k (frontOctet k payload) (getD payload k 0) (length payload)) p)
-        ∙ rw (← q, ← s)
+        pub frame-sound : length body ≡ g7231Octets (getD body 0 0) → numberOf (bodyRefusals r coding body) ≡ sound
+        unfolding bodyOctets
+        frame-sound h =
+            sounds (λ n. n) 0 (bodyRefusals r coding body)
+            (there, (known, (unflagged, (rw (frame, eq-eqb (length body) (g7231Octets (getD body 0 0)) h), tt))))
 
-module _ (r : Record) (sequence coding : ℕ) (body : List ℕ) where
-  pub made-no-voice : codings (r .syntax) ≡ 0 → voiceMade r sequence coding body ≡ unmade typeNotAllowed
-  unfolding voiceMade
-  made-no-voice h = simp (eq-eqb (codings (r .syntax)) 0 h)
+        pub frame-wrong : (length body ≡ g7231Octets (getD body 0 0) → ⊥) → numberOf (bodyRefusals r coding body) ≡ lengthWrong
+        unfolding bodyOctets
+        frame-wrong h =
+            tells r coding body
+            (past there (past known (past unflagged (here (rw (frame, ne-eqb (length body) (g7231Octets (getD body 0 0)) h))))))
 
-  module _ (voice : codings (r .syntax) ≡ 0 → ⊥) where
-    pub made-missing : length body < deciding (r .syntax) → voiceMade r sequence coding body ≡ unmade lengthWrong
-    unfolding voiceMade
-    made-missing h = simp (ne-eqb (codings (r .syntax)) 0 voice, lt-ltb (length body) (deciding (r .syntax)) h)
+-- blocks
+module _ (r : Record) (coding : ℕ) (body : List ℕ) (blocks : isG7231 (r .syntax) ≡ false) where
+  begun : ltb (length body) (deciding (r .syntax)) ≡ false
+  begun = rw blocks (le-ltb (length body) 0 (omega arith))
 
-    module _ (there : deciding (r .syntax) ≤ length body) where
-      pub made-unknown : codings (r .syntax) ≤ coding → voiceMade r sequence coding body ≡ unmade codingTypeUnknown
-      unfolding voiceMade
-      made-unknown h =
-          simp
-          (ne-eqb (codings (r .syntax)) 0 voice, le-ltb (length body) (deciding (r .syntax)) there, le-leb (codings (r .syntax)) coding h)
+  pub block-unknown : codings (r .syntax) ≤ coding → numberOf (bodyRefusals r coding body) ≡ codingTypeUnknown
+  block-unknown h = tells r coding body (past begun (here (le-leb (codings (r .syntax)) coding h)))
 
-      module _ (known : coding < codings (r .syntax)) where
-        -- past 12, the first 13 and 16
-        on :
-            voiceMade r sequence coding body
-            ≡ cond (isG7231 (r .syntax) && bothFlags (getD body 0 0)) (unmade reservedCode)
-            (cond (eqb (length body) (bodyOctets r coding (getD body 0 0)))
-            (cond (lib.Dec.ltb (mostSequence (frontOf r)) sequence) (unmade valueOutOfRange)
-            (made (cond (eqb (frontOf r) 0) [] ((sequence * 16 + coding) ∷ []) ++ body)))
-            (unmade lengthWrong))
-        unfolding voiceMade
-        on =
-            simp
-            (ne-eqb (codings (r .syntax)) 0 voice, le-ltb (length body) (deciding (r .syntax)) there, lt-leb (codings (r .syntax)) coding known)
+  module _ (known : coding < codings (r .syntax)) where
+    coded : leb (codings (r .syntax)) coding ≡ false
+    coded = lt-leb (codings (r .syntax)) coding known
 
-        pub made-reserved :
-            (isG7231 (r .syntax) && bothFlags (getD body 0 0)) ≡ true → voiceMade r sequence coding body ≡ unmade reservedCode
-        made-reserved h = on ∙ simp h
+    no-flags : (isG7231 (r .syntax) && bothFlags (getD body 0 0)) ≡ false
+    no-flags = rw blocks
 
-        module _ (free : (isG7231 (r .syntax) && bothFlags (getD body 0 0)) ≡ false) where
-          pub made-wrong :
-              (length body ≡ bodyOctets r coding (getD body 0 0) → ⊥) → voiceMade r sequence coding body ≡ unmade lengthWrong
-          made-wrong h = on ∙ simp (free, ne-eqb (length body) (bodyOctets r coding (getD body 0 0)) h)
+    pub block-sound : length body ≡ r .m * blockOctets (r .syntax) coding → numberOf (bodyRefusals r coding body) ≡ sound
+    unfolding bodyOctets
+    block-sound h =
+        sounds (λ n. n) 0 (bodyRefusals r coding body)
+        (begun, (coded, (no-flags, (rw (blocks, eq-eqb (length body) (r .m * blockOctets (r .syntax) coding) h), tt))))
 
-          module _ (whole : length body ≡ bodyOctets r coding (getD body 0 0)) where
-            pub made-beyond : mostSequence (frontOf r) < sequence → voiceMade r sequence coding body ≡ unmade valueOutOfRange
-            made-beyond h =
-                on ∙ simp (free, eq-eqb (length body) (bodyOctets r coding (getD body 0 0)) whole, lt-ltb (mostSequence (frontOf r)) sequence h)
+    pub block-wrong : (length body ≡ r .m * blockOctets (r .syntax) coding → ⊥) → numberOf (bodyRefusals r coding body) ≡ lengthWrong
+    unfolding bodyOctets
+    block-wrong h =
+        tells r coding body
+        (past begun (past coded (past no-flags (here (rw (blocks, ne-eqb (length body) (r .m * blockOctets (r .syntax) coding) h))))))
 
-            pub made-right :
-                sequence ≤ mostSequence (frontOf r)
-                → voiceMade r sequence coding body ≡ made (cond (eqb (frontOf r) 0) [] ((sequence * 16 + coding) ∷ []) ++ body)
-            made-right h =
-                on ∙ simp (free, eq-eqb (length body) (bodyOctets r coding (getD body 0 0)) whole, le-ltb (mostSequence (frontOf r)) sequence h)
+-- reading and writing, by the number of the body
+abbrev pub bodyNumber : Record → ℕ → List ℕ → ℕ
+bodyNumber r coding body = numberOf (voiceless (r .syntax) gives typeNotAllowed ∷ bodyRefusals r coding body)
 
--- what holds of a content that is made into octets
+module _ (r : Record) (coding : ℕ) (body : List ℕ) where
+  pub no-voice : codings (r .syntax) ≡ 0 → bodyNumber r coding body ≡ typeNotAllowed
+  no-voice h = rw h
+
+  pub with-voice : (codings (r .syntax) ≡ 0 → ⊥) → bodyNumber r coding body ≡ numberOf (bodyRefusals r coding body)
+  with-voice h = rw (ne-eqb (codings (r .syntax)) 0 h)
+
+pub missing : (r : Record) (payload : List ℕ) → length payload < frontOf r → voiceRead r payload ≡ BadVoice lengthWrong
+unfolding voiceRead
+missing r payload h =
+    let none : ltb (length payload) (frontOf r) ≡ true = lt-ltb (length payload) (frontOf r) h in
+    simp (sizes.fronted-voice r (omega arith), none)
+
+pub read-by :
+    (r : Record) (payload : List ℕ)
+    → frontOf r ≤ length payload
+    → let n = bodyNumber r (codingIn r payload) (bodyIn r payload) in
+    voiceRead r payload ≡ cond (eqb n 0) (Voice (record { 0 = sequenceIn r payload }) (codingIn r payload) (frontOf r)) (BadVoice n)
+unfolding voiceRead
+read-by r payload h =
+    rw (le-ltb (length payload) (frontOf r) h)
+    (by-number BadVoice _ (voiceless (r .syntax) gives typeNotAllowed ∷ bodyRefusals r (codingIn r payload) (bodyIn r payload)) (tt, (tt, (tt, (tt, (tt, tt))))))
+
+-- the same, by what the code has
+module _ (r : Record) (payload : List ℕ) (front o n : ℕ) (is : front ≡ frontOf r) (whole : front ≤ length payload)
+    (octet : o ≡ getD (take front payload) 0 0)
+    (told : n ≡ bodyNumber r (o % 16) (take (length payload - front) (drop front payload))) where
+  octet-is : o ≡ frontOctet r payload
+  octet-is = octet ∙ rw is
+
+  number-is : n ≡ bodyNumber r (codingIn r payload) (bodyIn r payload)
+  number-is =
+      told
+      ∙ ap (bodyNumber r (o % 16)) (take-all (length payload - front) (drop front payload) (simp length-drop (omega arith)))
+      ∙ rw (octet-is, is)
+
+  read-is : voiceRead r payload ≡ cond (eqb n 0) (Voice (record { 0 = o / 16 }) (o % 16) front) (BadVoice n)
+  read-is = read-by r payload (rw is at whole) ∙ rw (← number-is, ← octet-is, ← is)
+
+  pub sound-read : n ≡ 0 → voiceRead r payload ≡ Voice (record { 0 = o / 16 }) (o % 16) front
+  sound-read h = read-is ∙ simp (eq-eqb n 0 h)
+
+  pub refused-read : (n ≡ 0 → ⊥) → voiceRead r payload ≡ BadVoice n
+  refused-read h = read-is ∙ simp (ne-eqb n 0 h)
+
+pub made-by :
+    (r : Record) (sequence coding : ℕ) (body : List ℕ)
+    → let n = bodyNumber r coding body in
+    voiceMade r sequence coding body
+    ≡ cond (eqb n 0)
+    (cond (ltb (mostSequence (frontOf r)) sequence) (unmade valueOutOfRange) (made (frontOctets r sequence coding ++ body)))
+    (unmade n)
+unfolding voiceMade
+made-by r sequence coding body =
+    by-number unmade _ (voiceless (r .syntax) gives typeNotAllowed ∷ bodyRefusals r coding body) (tt, (tt, (tt, (tt, (tt, tt)))))
+
+module _ (r : Record) (sequence coding : ℕ) (body : List ℕ) (n : ℕ) (told : n ≡ bodyNumber r coding body) where
+  made-is :
+      voiceMade r sequence coding body
+      ≡ cond (eqb n 0)
+      (cond (ltb (mostSequence (frontOf r)) sequence) (unmade valueOutOfRange) (made (frontOctets r sequence coding ++ body)))
+      (unmade n)
+  made-is = made-by r sequence coding body ∙ rw (← told)
+
+  pub unfit : (n ≡ 0 → ⊥) → voiceMade r sequence coding body ≡ unmade n
+  unfit h = made-is ∙ simp (ne-eqb n 0 h)
+
+  module _ (fits : n ≡ 0) where
+    pub beyond : mostSequence (frontOf r) < sequence → voiceMade r sequence coding body ≡ unmade valueOutOfRange
+    beyond h = made-is ∙ simp (eq-eqb n 0 fits, lt-ltb (mostSequence (frontOf r)) sequence h)
+
+    pub fit : sequence ≤ mostSequence (frontOf r) → voiceMade r sequence coding body ≡ made (frontOctets r sequence coding ++ body)
+    fit h = made-is ∙ simp (eq-eqb n 0 fits, le-ltb (mostSequence (frontOf r)) sequence h)
+
+-- how many octets are made
+pub made-length : (r : Record) (sequence coding : ℕ) (body : List ℕ) → length (frontOctets r sequence coding ++ body) ≡ frontOf r + length body
+made-length r sequence coding body =
+    length-append (frontOctets r sequence coding) body
+    ∙ ap (λ (k : ℕ). k + length body) (sizes.front-length (frontOf r) (sequence * 16 + coding) (sizes.front-small r))
+
+-- what is made passed every test, and its octets follow
 pub record Fitting (r : Record) (sequence coding : ℕ) (body : List ℕ) : Type 0 where
-  pub voice : codings (r .syntax) ≡ 0 → ⊥
-  pub there : deciding (r .syntax) ≤ length body
-  pub known : coding < codings (r .syntax)
-  pub free : (isG7231 (r .syntax) && bothFlags (getD body 0 0)) ≡ false
-  pub whole : length body ≡ bodyOctets r coding (getD body 0 0)
+  pub voice : voiceless (r .syntax) ≡ false
+  pub body-sound : Passes (bodyRefusals r coding body)
   pub carried : sequence ≤ mostSequence (frontOf r)
 
-pub decided :
-    (r : Record) (sequence coding : ℕ) (body : List ℕ)
-    → ((number : ℕ) × (voiceMade r sequence coding body ≡ unmade number)) ⊎ Fitting r sequence coding body
-decided r s c b =
-    ⊎-elim (λ none. inl (_, made-no-voice r s c b none))
-    (λ voice.
-    ⊎-elim (λ short. inl (_, made-missing r s c b voice short))
-    (λ there.
-    ⊎-elim
-    (λ known.
-    flags-or
-    (λ set. inl (_, made-reserved r s c b voice there known set))
-    (λ free.
-    ⊎-elim
-    (λ whole.
-    ⊎-elim (λ beyond. inl (_, made-beyond r s c b voice there known free whole beyond))
-    (λ carried.
-    inr (record { voice = voice; there = there; known = known; free = free; whole = whole; carried = carried }))
-    (lt-or-le (mostSequence (frontOf r)) s))
-    (λ wrong. inl (_, made-wrong r s c b voice there known free wrong))
-    (eq-or-ne (length b) (bodyOctets r c (getD b 0 0))))
-    (isG7231 (r .syntax) && bothFlags (getD b 0 0))
-    refl)
-    (λ unknown. inl (_, made-unknown r s c b voice there unknown))
-    (lt-or-le c (codings (r .syntax))))
-    (lt-or-le (length b) (deciding (r .syntax))))
-    (eq-or-ne (codings (r .syntax)) 0)
-  where
-    flags-or : {A : Type 0} {t : Bool} → (t ≡ true → A) → (t ≡ false → A) → (u : Bool) → t ≡ u → A
-    flags-or f g true e = f e
-    flags-or f g false e = g e
+module _ (r : Record) (sequence coding : ℕ) (body : List ℕ) where
+  pub fitting : (octets : List ℕ) → voiceMade r sequence coding body ≡ made octets → Fitting r sequence coding body
+  unfolding voiceMade
+  fitting octets e =
+      let tests =
+      passed unmade _ (writeRefusals r sequence coding body) (made octets) (λ n m. never-made (unmade n) n octets refl m) e .0
+      in
+      let b = tests .1 in
+      record {
+        voice = tests .0;
+        body-sound = (b .0, (b .1 .0, (b .1 .1 .0, (b .1 .1 .1 .0, tt))));
+        carried = ltb-false (mostSequence (frontOf r)) sequence (b .1 .1 .1 .1 .0);
+      }
 
-pub fitting : (r : Record) (sequence coding : ℕ) (body octets : List ℕ) → voiceMade r sequence coding body ≡ made octets → Fitting r sequence coding body
-fitting r s c b octets e = ⊎-elim (λ w. never-made _ _ _ (w .1) e) (λ f. f) (decided r s c b)
+  module _ (f : Fitting r sequence coding body) where
+    pub in-table : coding < codings (r .syntax)
+    in-table = leb-false (codings (r .syntax)) coding (f .body-sound .1 .0)
 
-pub front-made :
-    (r : Record) (sequence coding : ℕ) (body : List ℕ)
-    → Fitting r sequence coding body
-    → voiceMade r sequence coding body ≡ made (cond (eqb (frontOf r) 0) [] ((sequence * 16 + coding) ∷ []) ++ body)
-front-made r s c b f = made-right r s c b (f .voice) (f .there) (f .known) (f .free) (f .whole) (f .carried)
-
--- the same, without a front octet and with it
-pub bare-made :
-    (r : Record) (sequence coding : ℕ) (body : List ℕ)
-    → Fitting r sequence coding body
-    → frontOf r ≡ 0
-    → voiceMade r sequence coding body ≡ made body
-bare-made r s c b f none = front-made r s c b f ∙ simp (eq-eqb (frontOf r) 0 none)
-
-pub fronted-made :
-    (r : Record) (sequence coding : ℕ) (body : List ℕ)
-    → Fitting r sequence coding body
-    → (frontOf r ≡ 0 → ⊥)
-    → voiceMade r sequence coding body ≡ made ((sequence * 16 + coding) ∷ body)
-fronted-made r s c b f some = front-made r s c b f ∙ simp (ne-eqb (frontOf r) 0 some)
+    pub is-made : voiceMade r sequence coding body ≡ made (frontOctets r sequence coding ++ body)
+    unfolding voiceMade
+    is-made =
+        let b = f .body-sound in
+        sounds unmade _ (writeRefusals r sequence coding body)
+        (f .voice, (b .0, (b .1 .0, (b .1 .1 .0, (b .1 .1 .1 .0, (le-ltb (mostSequence (frontOf r)) sequence (f .carried), tt))))))

@@ -4,10 +4,11 @@
 --   body          the octets of the card, m blocks of them, or one G.723.1 frame
 use Prim.Native.Nat.{ℕ, _+_, _*_, _/_, _%_}
 use mathlib.Core.List.{List, [], _∷_, _++_}
-use mathlib.Core.Bool.{Bool, true, false, cond, _&&_}
+use mathlib.Core.Bool.{Bool, true, false, cond, not, _&&_}
 use lib.Dec.{ltb, leb, eqb}
-use lib.ListN.{length, getD}
+use lib.ListN.{length, getD, take, drop}
 use Rattle.refusal.specs.Numbers.{typeNotAllowed, lengthWrong, reservedCode, valueOutOfRange, codingTypeUnknown}
+use Rattle.refusal.specs.Order.{Test, _gives_, inOrder}
 use Rattle.octets.specs.Made.{Made, made, unmade}
 use Rattle.record.specs.declared.syntax.Syntax.{Syntax}
 use Rattle.record.specs.declared.syntax.Syntax.the-variants.{Acelp, Pcm, G727, G728, G7231, Data, Fax}
@@ -32,6 +33,9 @@ codings G728 = 1
 codings G7231 = 1
 codings Data = 0
 codings Fax = 0
+
+abbrev pub voiceless : Syntax → Bool
+voiceless syntax = eqb (codings syntax) 0
 
 -- The octets of a coding type: of one of the m blocks.
 unfoldable pub blockOctets : Syntax → ℕ → ℕ
@@ -83,39 +87,56 @@ frontOf r = frontBy (r .syntax) (r .seq)
 abbrev pub deciding : Syntax → ℕ
 deciding syntax = cond (isG7231 syntax) 1 0
 
--- The front octet of a payload, or 0 without it.
-abbrev pub frontOctet : ℕ → List ℕ → ℕ
-frontOctet front payload = cond (eqb front 0) 0 (getD payload 0 0)
+-- The parts of a payload: the front octet, or 0 without it, with its fields; and the body behind it.
+abbrev pub frontOctet : Record → List ℕ → ℕ
+frontOctet r payload = getD (take (frontOf r) payload) 0 0
 
--- 13 where an octet that decides the length is missing, 16, 14 for both flags, 13. `first` is the body's first octet.
-unfoldable pub judged : Record → ℕ → ℕ → ℕ → ℕ → VoiceRead
-judged r front o first n =
-    cond (leb (codings (r .syntax)) (o % 16)) (BadVoice codingTypeUnknown)
-    (cond (isG7231 (r .syntax) && bothFlags first) (BadVoice reservedCode)
-    (cond (eqb n (front + bodyOctets r (o % 16) first))
-    (Voice (record { 0 = o / 16 }) (o % 16) front)
-    (BadVoice lengthWrong)))
+abbrev pub sequenceIn : Record → List ℕ → ℕ
+sequenceIn r payload = frontOctet r payload / 16
 
+abbrev pub codingIn : Record → List ℕ → ℕ
+codingIn r payload = frontOctet r payload % 16
+
+abbrev pub bodyIn : Record → List ℕ → List ℕ
+bodyIn r payload = drop (frontOf r) payload
+
+-- The refusals of a body with its coding type: 13 where the octet that decides its length is missing, 16, 14 for both flags, 13.
+abbrev pub bodyRefusals : Record → ℕ → List ℕ → List Test
+bodyRefusals r coding body =
+    ltb (length body) (deciding (r .syntax)) gives lengthWrong
+    ∷ leb (codings (r .syntax)) coding gives codingTypeUnknown
+    ∷ (isG7231 (r .syntax) && bothFlags (getD body 0 0)) gives reservedCode
+    ∷ not (eqb (length body) (bodyOctets r coding (getD body 0 0))) gives lengthWrong
+    ∷ []
+
+-- The refusals of a payload, in document 01's order.
+abbrev pub readRefusals : Record → List ℕ → List Test
+readRefusals r payload =
+    voiceless (r .syntax) gives typeNotAllowed
+    ∷ ltb (length payload) (frontOf r) gives lengthWrong
+    ∷ bodyRefusals r (codingIn r payload) (bodyIn r payload)
+
+-- What a payload tells.
 unfoldable pub voiceRead : Record → List ℕ → VoiceRead
 voiceRead r payload =
-    let front = frontOf r in
-    cond (eqb (codings (r .syntax)) 0) (BadVoice typeNotAllowed)
-    (cond (ltb (length payload) (front + deciding (r .syntax))) (BadVoice lengthWrong)
-    (judged r front (frontOctet front payload) (getD payload front 0) (length payload)))
+    inOrder (readRefusals r payload) BadVoice (Voice (record { 0 = sequenceIn r payload }) (codingIn r payload) (frontOf r))
 
--- The largest sequence that the payload can carry.
+-- The largest sequence that a payload with so many front octets carries.
 abbrev pub mostSequence : ℕ → ℕ
 mostSequence front = cond (eqb front 0) 0 15
 
--- The octets of a voice payload, for writing: the refusals in the reader's order, then 15 for a sequence beyond its bits.
+-- The refusals of a content, for writing: in the reader's order, then 15 for a sequence beyond its bits.
+abbrev pub writeRefusals : Record → ℕ → ℕ → List ℕ → List Test
+writeRefusals r sequence coding body =
+    voiceless (r .syntax) gives typeNotAllowed
+    ∷ bodyRefusals r coding body
+    ++ ltb (mostSequence (frontOf r)) sequence gives valueOutOfRange
+    ∷ []
+
+-- The octets of a voice payload.
+abbrev pub frontOctets : Record → ℕ → ℕ → List ℕ
+frontOctets r sequence coding = take (frontOf r) ((sequence * 16 + coding) ∷ [])
+
 unfoldable pub voiceMade : Record → ℕ → ℕ → List ℕ → Made
 voiceMade r sequence coding body =
-    let front = frontOf r in
-    cond (eqb (codings (r .syntax)) 0) (unmade typeNotAllowed)
-    (cond (ltb (length body) (deciding (r .syntax))) (unmade lengthWrong)
-    (cond (leb (codings (r .syntax)) coding) (unmade codingTypeUnknown)
-    (cond (isG7231 (r .syntax) && bothFlags (getD body 0 0)) (unmade reservedCode)
-    (cond (eqb (length body) (bodyOctets r coding (getD body 0 0)))
-    (cond (ltb (mostSequence front) sequence) (unmade valueOutOfRange)
-    (made (cond (eqb front 0) [] ((sequence * 16 + coding) ∷ []) ++ body)))
-    (unmade lengthWrong)))))
+    inOrder (writeRefusals r sequence coding body) unmade (made (frontOctets r sequence coding ++ body))

@@ -5,11 +5,9 @@ use octets::Fit;
 use octets::Put;
 use record::syntax::Syntax;
 ghost use mathlib.Core.Path.{_≡_};
-ghost use Prim.Native.Nat.{ℕ};
-ghost use Rattle.levels.specs.declared.Coded.the-variants.{Code};
 ghost use Rattle.levels.specs.Level.{codeOf};
 ghost use Rattle.octets.specs.Made.{fitOf, putMade, leftMade};
-ghost use Rattle.voice.specs.Sid.{sidOctets, sidRead, sidMade};
+ghost use Rattle.voice.specs.Sid.{sidOctets, sidRead, outOfRange, magnitudeIn, sidMade};
 
 // What a silence descriptor carries: the noise level, 0 to -63 dBm0, or nothing.
 pub enum Sid {
@@ -46,16 +44,38 @@ pub fn read_sid(syntax: Syntax, payload: &[u8]) -> SidRead
         return SidRead::BadSid(refusal::TYPE_NOT_ALLOWED);
     }
     let due = sid_octets(syntax);
-    if payload.len() == due {
-        if due == 0 {
-            return SidRead::Silence(Sid::Plain);
-        }
-        return SidRead::Silence(Sid::Noise {
-            sequence: VoiceCount(octets::octet(payload, 0) / 16),
-            level: levels::level_of(octets::octet(payload, 1)),
-        });
+    if payload.len() != due {
+        return SidRead::BadSid(refusal::LENGTH_WRONG);
     }
-    SidRead::BadSid(refusal::LENGTH_WRONG)
+    if due == 0 {
+        return SidRead::Silence(Sid::Plain);
+    }
+    SidRead::Silence(Sid::Noise {
+        sequence: VoiceCount(octets::octet(payload, 0) / 16),
+        level: levels::level_of(octets::octet(payload, 1)),
+    })
+}
+
+// Whether a noise level is above 0 or below -63.
+fn out_of_range(level: i8) -> bool
+    ensures { λ r. ⌜ r ≡ outOfRange (codeOf 63 level) ⌝ }
+{
+    match levels::code_of(level, 63) {
+        Coded::Code(_) => false,
+        Coded::Above => true,
+        Coded::Below => true,
+    }
+}
+
+// The magnitude of a noise level that is in range.
+fn magnitude(level: i8) -> u8
+    ensures { λ r. ⌜ r ≡ magnitudeIn (codeOf 63 level) ⌝ }
+{
+    match levels::code_of(level, 63) {
+        Coded::Code(magnitude) => magnitude,
+        Coded::Above => 0,
+        Coded::Below => 0,
+    }
 }
 
 // The octets of a silence descriptor, or the refusal.
@@ -65,38 +85,26 @@ pub fn fit_sid(syntax: Syntax, sid: Sid) -> Fit
     if crate::voice::coding_count(syntax) == 0 {
         return Fit::Unfit(refusal::TYPE_NOT_ALLOWED);
     }
-    if sid_octets(syntax) == 0 {
-        return match sid {
-            Sid::Noise {
-                sequence: _,
-                level: _,
-            } => Fit::Unfit(refusal::VALUE_OUT_OF_RANGE),
-            Sid::Plain => Fit::Octets(0),
-        };
-    }
+    let due = sid_octets(syntax);
     match sid {
         Sid::Noise { sequence, level } => {
+            if due == 0 {
+                return Fit::Unfit(refusal::VALUE_OUT_OF_RANGE);
+            }
             if 15 < sequence.0 {
                 return Fit::Unfit(refusal::VALUE_OUT_OF_RANGE);
             }
-            match levels::code_of(level, 63) {
-                Coded::Code(_) => Fit::Octets(2),
-                Coded::Above => Fit::Unfit(refusal::VALUE_OUT_OF_RANGE),
-                Coded::Below => Fit::Unfit(refusal::VALUE_OUT_OF_RANGE),
+            if out_of_range(level) {
+                return Fit::Unfit(refusal::VALUE_OUT_OF_RANGE);
             }
+            Fit::Octets(2)
         }
-        Sid::Plain => Fit::Unfit(refusal::LENGTH_WRONG),
-    }
-}
-
-// The magnitude of a noise level that has one.
-fn noise_code(level: i8) -> u8
-    ensures { λ r. ⌜ ((magnitude : ℕ) → codeOf 63 level ≡ Code magnitude → r ≡ magnitude) ⌝ }
-{
-    match levels::code_of(level, 63) {
-        Coded::Code(magnitude) => magnitude,
-        Coded::Above => 0,
-        Coded::Below => 0,
+        Sid::Plain => {
+            if due != 0 {
+                return Fit::Unfit(refusal::LENGTH_WRONG);
+            }
+            Fit::Octets(0)
+        }
     }
 }
 
@@ -107,19 +115,12 @@ pub fn put_sid(room: &mut [u8], at: usize, syntax: Syntax, sid: Sid) -> Put
 {
     match fit_sid(syntax, sid) {
         Fit::Unfit(number) => Put::NotWritten(number),
-        Fit::Octets(size) => {
-            if octets::exceeds(room.len(), at, size) {
-                return Put::NotWritten(refusal::ROOM_TOO_SMALL);
+        Fit::Octets(_) => match sid {
+            Sid::Noise { sequence, level } => {
+                let pair = [sequence.0 * 16, magnitude(level)];
+                octets::put_octets(room, at, &pair)
             }
-            match sid {
-                Sid::Noise { sequence, level } => {
-                    let code = noise_code(level);
-                    room[at] = sequence.0 * 16;
-                    room[at + 1] = code;
-                    Put::Written(at + 2)
-                }
-                Sid::Plain => Put::Written(at),
-            }
-        }
+            Sid::Plain => octets::put_octets(room, at, b""),
+        },
     }
 }

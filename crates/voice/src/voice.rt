@@ -5,11 +5,14 @@ use octets::Put;
 use record::syntax::Record;
 use record::syntax::Syntax;
 ghost use mathlib.Core.Path.{_≡_};
-ghost use mathlib.Core.Bool.{_&&_};
+ghost use mathlib.Core.Bool.{true};
 ghost use lib.ListN.{getD};
-ghost use Prim.Native.Nat.{_<_, _≤_};
+ghost use Prim.Native.Nat.{_*_, _<_};
 ghost use Rattle.octets.specs.Made.{fitOf, putMade, leftMade};
-ghost use Rattle.voice.specs.Voice.{codings, pcmOctets, g727Octets, blockOctets, g7231Octets, bothFlags, isG7231, bodyOctets, seqFront, frontOf, deciding, mostSequence, voiceRead, voiceMade};
+ghost use mathlib.Core.List.{_∷_};
+ghost use Rattle.refusal.specs.Numbers.{sound, typeNotAllowed};
+ghost use Rattle.refusal.specs.Order.{_gives_, inOrder};
+ghost use Rattle.voice.specs.Voice.{codings, pcmOctets, g727Octets, blockOctets, g7231Octets, isG7231, seqFront, frontBy, frontOf, voiceless, bodyRefusals, voiceRead, mostSequence, voiceMade};
 
 // The octets of a coding type, of Annex F and of Annex G.
 const PCM_OCTETS: [u8; 14] = [40, 35, 30, 40, 35, 30, 25, 20, 15, 10, 25, 20, 15, 10];
@@ -42,29 +45,26 @@ pub fn coding_count(syntax: Syntax) -> u8
     }
 }
 
-// The octets of a coding type under Annex F and Annex G; 0 past the table.
+// The octets of a coding type under Annex F, and under Annex G.
 fn pcm_octets(coding: u8) -> usize
+    requires { ⌜ coding < 14 ⌝ }
     ensures { λ r. ⌜ r ≡ getD pcmOctets coding 0 ⌝ }
 {
     let at = coding as usize;
-    if at < 14 { wide(PCM_OCTETS[at]) } else { 0 }
+    octets::wide(PCM_OCTETS[at])
 }
 
 fn g727_octets(coding: u8) -> usize
+    requires { ⌜ coding < 15 ⌝ }
     ensures { λ r. ⌜ r ≡ getD g727Octets coding 0 ⌝ }
 {
     let at = coding as usize;
-    if at < 15 { wide(G727_OCTETS[at]) } else { 0 }
-}
-
-fn wide(octets: u8) -> usize
-    ensures { λ r. ⌜ (r ≡ octets) × (r < 256) ⌝ }
-{
-    octets as usize
+    octets::wide(G727_OCTETS[at])
 }
 
 // The octets of one block.
 fn block_octets(syntax: Syntax, coding: u8) -> usize
+    requires { ⌜ coding < codings syntax ⌝ }
     ensures { λ r. ⌜ r ≡ blockOctets syntax coding ⌝ }
 {
     match syntax {
@@ -76,6 +76,14 @@ fn block_octets(syntax: Syntax, coding: u8) -> usize
         Syntax::Data => 0,
         Syntax::Fax => 0,
     }
+}
+
+// The octets of m blocks.
+fn blocks_octets(m: u8, syntax: Syntax, coding: u8) -> usize
+    requires { ⌜ coding < codings syntax ⌝ }
+    ensures { λ r. ⌜ r ≡ m * blockOctets syntax coding ⌝ }
+{
+    octets::wide(m) * block_octets(syntax, coding)
 }
 
 // The octets of one G.723.1 frame, from its first octet.
@@ -99,43 +107,46 @@ fn is_g7231(syntax: Syntax) -> bool
     }
 }
 
-// A G.723.1 frame with both flags set, which is reserved.
-fn flags_reserved(syntax: Syntax, first: u8) -> bool
-    ensures { λ r. ⌜ r ≡ (isG7231 syntax && bothFlags first) ⌝ }
+// The refusal number of one G.723.1 frame.
+fn frame_refusal(rec: Record, coding: u8, body: &[u8]) -> u8
+    requires { ⌜ isG7231 (rec .syntax) ≡ true ⌝ }
+    ensures { λ r. ⌜ r ≡ inOrder (bodyRefusals rec coding (now (body .entry))) (λ number. number) sound ⌝ }
 {
-    if is_g7231(syntax) {
-        first % 4 == 3
-    } else {
-        false
+    if body.len() == 0 {
+        return refusal::LENGTH_WRONG;
     }
+    if coding != 0 {
+        return refusal::CODING_TYPE_UNKNOWN;
+    }
+    let first = body[0];
+    if first % 4 == 3 {
+        return refusal::RESERVED_CODE;
+    }
+    if body.len() == g7231_octets(first) {
+        return refusal::SOUND;
+    }
+    refusal::LENGTH_WRONG
 }
 
-// The octets of the body, from the coding type and its first octet.
-fn body_octets(rec: Record, coding: u8, first: u8) -> usize
-    ensures { λ r. ⌜ (r ≡ bodyOctets rec coding first) × (r ≤ 10200) ⌝ }
+// The refusal number of a body with its coding type.
+fn body_refusal(rec: Record, coding: u8, body: &[u8]) -> u8
+    ensures { λ r. ⌜ r ≡ inOrder (voiceless (rec .syntax) gives typeNotAllowed ∷ bodyRefusals rec coding (now (body .entry))) (λ number. number) sound ⌝ }
 {
     let syntax = rec.syntax;
+    let codings = coding_count(syntax);
+    if codings == 0 {
+        return refusal::TYPE_NOT_ALLOWED;
+    }
     if is_g7231(syntax) {
-        return g7231_octets(first);
+        return frame_refusal(rec, coding, body);
     }
-    wide(rec.m) * block_octets(syntax, coding)
-}
-
-// How many octets stand in front of the body.
-fn front_size(rec: Record) -> usize
-    ensures { λ r. ⌜ r ≡ frontOf rec ⌝ }
-{
-    let syntax = rec.syntax;
-    let seq = seq_front(rec.seq);
-    match syntax {
-        Syntax::Acelp => seq,
-        Syntax::Pcm => 1,
-        Syntax::G727 => 1,
-        Syntax::G728 => seq,
-        Syntax::G7231 => seq,
-        Syntax::Data => 0,
-        Syntax::Fax => 0,
+    if codings <= coding {
+        return refusal::CODING_TYPE_UNKNOWN;
     }
+    if body.len() == blocks_octets(rec.m, syntax, coding) {
+        return refusal::SOUND;
+    }
+    refusal::LENGTH_WRONG
 }
 
 fn seq_front(seq: bool) -> usize
@@ -144,73 +155,47 @@ fn seq_front(seq: bool) -> usize
     if seq { 1 } else { 0 }
 }
 
-// How many octets of the body decide its length.
-fn deciding_octets(syntax: Syntax) -> usize
-    ensures { λ r. ⌜ r ≡ deciding syntax ⌝ }
+fn front_by(syntax: Syntax, seq: bool) -> usize
+    ensures { λ r. ⌜ r ≡ frontBy syntax seq ⌝ }
 {
-    if is_g7231(syntax) { 1 } else { 0 }
+    let one = seq_front(seq);
+    match syntax {
+        Syntax::Acelp => one,
+        Syntax::Pcm => 1,
+        Syntax::G727 => 1,
+        Syntax::G728 => one,
+        Syntax::G7231 => one,
+        Syntax::Data => 0,
+        Syntax::Fax => 0,
+    }
+}
+
+// How many octets stand in front of the body.
+fn front_size(rec: Record) -> usize
+    ensures { λ r. ⌜ r ≡ frontOf rec ⌝ }
+{
+    let syntax = rec.syntax;
+    front_by(syntax, rec.seq)
 }
 
 // Reads a voice payload.
 pub fn read_voice(rec: Record, payload: &[u8]) -> VoiceRead
     ensures { λ r. ⌜ r ≡ voiceRead rec (now (payload .entry)) ⌝ }
 {
-    let syntax = rec.syntax;
-    let codings = coding_count(syntax);
-    if codings == 0 {
-        return VoiceRead::BadVoice(refusal::TYPE_NOT_ALLOWED);
-    }
     let front = front_size(rec);
-    if payload.len() < front + deciding_octets(syntax) {
+    if payload.len() < front {
         return VoiceRead::BadVoice(refusal::LENGTH_WRONG);
     }
-    let octet = octets::octet_where(front, octets::octet(payload, 0));
-    let coding = octet % 16;
-    if codings <= coding {
-        return VoiceRead::BadVoice(refusal::CODING_TYPE_UNKNOWN);
-    }
-    let first = octets::octet(payload, front);
-    if flags_reserved(syntax, first) {
-        return VoiceRead::BadVoice(refusal::RESERVED_CODE);
-    }
-    if payload.len() == front + body_octets(rec, coding, first) {
+    let octet = octets::octet(&payload[..front], 0);
+    let number = body_refusal(rec, octet % 16, &payload[front..]);
+    if number == refusal::SOUND {
         return VoiceRead::Voice {
             sequence: VoiceCount(octet / 16),
-            coding,
+            coding: octet % 16,
             front,
         };
     }
-    VoiceRead::BadVoice(refusal::LENGTH_WRONG)
-}
-
-// The octets of a voice payload with this body, or the refusal.
-pub fn fit_voice(rec: Record, sequence: VoiceCount, coding: u8, body: &[u8]) -> Fit
-    ensures { λ r. ⌜ r ≡ fitOf (voiceMade rec (sequence .0) coding (now (body .entry))) ⌝ }
-{
-    let syntax = rec.syntax;
-    let codings = coding_count(syntax);
-    if codings == 0 {
-        return Fit::Unfit(refusal::TYPE_NOT_ALLOWED);
-    }
-    if body.len() < deciding_octets(syntax) {
-        return Fit::Unfit(refusal::LENGTH_WRONG);
-    }
-    if codings <= coding {
-        return Fit::Unfit(refusal::CODING_TYPE_UNKNOWN);
-    }
-    let first = octets::octet(body, 0);
-    if flags_reserved(syntax, first) {
-        return Fit::Unfit(refusal::RESERVED_CODE);
-    }
-    let due = body_octets(rec, coding, first);
-    if body.len() == due {
-        let front = front_size(rec);
-        if most_sequence(front) < sequence.0 {
-            return Fit::Unfit(refusal::VALUE_OUT_OF_RANGE);
-        }
-        return Fit::Octets(front + due);
-    }
-    Fit::Unfit(refusal::LENGTH_WRONG)
+    VoiceRead::BadVoice(number)
 }
 
 // The largest sequence that a payload with so many front octets carries.
@@ -218,6 +203,21 @@ fn most_sequence(front: usize) -> u8
     ensures { λ r. ⌜ r ≡ mostSequence front ⌝ }
 {
     if front == 0 { 0 } else { 15 }
+}
+
+// The octets of a voice payload with this body, or the refusal.
+pub fn fit_voice(rec: Record, sequence: VoiceCount, coding: u8, body: &[u8]) -> Fit
+    ensures { λ r. ⌜ r ≡ fitOf (voiceMade rec (sequence .0) coding (now (body .entry))) ⌝ }
+{
+    let number = body_refusal(rec, coding, body);
+    if number != refusal::SOUND {
+        return Fit::Unfit(number);
+    }
+    let front = front_size(rec);
+    if most_sequence(front) < sequence.0 {
+        return Fit::Unfit(refusal::VALUE_OUT_OF_RANGE);
+    }
+    Fit::Octets(front + body.len())
 }
 
 // Writes a voice payload at a place of lent room.
@@ -234,15 +234,10 @@ pub fn put_voice(
 {
     match fit_voice(rec, sequence, coding, body) {
         Fit::Unfit(number) => Put::NotWritten(number),
-        Fit::Octets(size) => {
-            if octets::exceeds(room.len(), at, size) {
-                return Put::NotWritten(refusal::ROOM_TOO_SMALL);
-            }
-            if front_size(rec) == 0 {
-                return octets::put_octets(room, at, body);
-            }
-            room[at] = sequence.0 * 16 + coding;
-            octets::put_octets(room, at + 1, body)
+        Fit::Octets(_) => {
+            let head = [sequence.0 * 16 + coding];
+            let front = front_size(rec);
+            octets::put_both(room, at, &head[..front], body)
         }
     }
 }

@@ -1,7 +1,7 @@
 -- `fax::front_size` meets its contract.
-use Rattle.fax.specs.Fax.{frontOf}
 use Prim.Native.Nat.{ℕ, _+_}
 use mathlib.Core.Path.{ap₂}
+use Rattle.fax.specs.Fax.{frontOf}
 use borrow.Author.Needs.{needs}
 use Rattle.fax.proofs.front_size.Statement.{statement}
 use Rattle.fax.proofs.front_size.Tie as tie

@@ -1,5 +1,7 @@
--- `fax::read_fax` meets its contract: the octets give the values that are judged.
-use mathlib.Core.Path.{sym, _∙_}
+-- `fax::read_fax` meets its contract: the first octet says how the payload is read.
+use mathlib.Core.Path.{sym}
+use native.Mathlib.Omega.{arith}
+use borrow.Author.Tests.{le-leb, lt-leb}
 use Rattle.fax.proofs.FaxCases as cases
 use borrow.Author.Needs.{needs}
 use Rattle.fax.proofs.read_fax.Statement.{statement}
@@ -8,65 +10,40 @@ use Rattle.fax.proofs.read_fax.Tie as tie
 returns : tie.Need-returns
 returns c = sym (cases.empty _ (c .if1 .taken))
 
-octet-requires : tie.Need-octet-requires
-octet-requires c κs = search needs
-
-octet-requires-2 : tie.Need-octet-requires-2
-octet-requires-2 c κs = search needs
-
-octet-requires-3 : tie.Need-octet-requires-3
-octet-requires-3 c κs = search needs
-
-octet-requires-4 : tie.Need-octet-requires-4
-octet-requires-4 c κs = search needs
-
-octet-requires-5 : tie.Need-octet-requires-5
-octet-requires-5 c κs = search needs
-
-octet-requires-6 : tie.Need-octet-requires-6
-octet-requires-6 c κs = search needs
-
-stamp-in-requires : tie.Need-stamp-in-requires
-stamp-in-requires c κs = search needs
-
-ei2-in-requires : tie.Need-ei2-in-requires
-ei2-in-requires c κs = search needs
-
-command-in-requires : tie.Need-command-in-requires
-command-in-requires c κs = search needs
-
-spare-in-requires : tie.Need-spare-in-requires
-spare-in-requires c κs = search needs
-
-judge-requires : tie.Need-judge-requires
-judge-requires c κs = search needs
+shared-slice-read-first : tie.Need-shared-slice-read-first
+shared-slice-read-first c = search needs
 
 returns-2 : tie.Need-returns-2
-returns-2 c =
-    c .judge .ensures
-    ∙ sym
-    (cases.there-by _ (c .before .before .before .before .before .before .before .before .before .before .before .if1 .left) _ _ _ _ _ _ _ _ _ _ (c .before .before .before .before .before .before .before .before .before .before .octet .ensures) (c .before .before .before .before .before .before .before .before .before .octet2 .ensures) (c .before .before .before .before .before .before .before .before .octet3 .ensures) (c .before .before .before .before .before .before .before .octet4 .ensures)
-    (c .before .before .before .before .before .before .octet5 .ensures)
-    (c .before .before .before .before .before .octet6 .ensures)
-    (c .before .before .before .before .stamp-in .ensures)
-    (c .before .before .before .ei2-in .ensures)
-    (c .before .before .command-in .ensures)
-    (c .before .spare-in .ensures))
+returns-2 c = sym (cases.unknown _ (omega arith) (c .if2 .taken))
+
+read-bare-requires : tie.Need-read-bare-requires
+read-bare-requires c κs = (omega arith, omega arith, lt-leb 128 _ (c .if3 .taken))
+
+returns-3 : tie.Need-returns-3
+returns-3 c = search needs
+
+read-on-requires : tie.Need-read-on-requires
+read-on-requires c κs = (omega arith, c .if4 .taken, le-leb 128 _ (c .before .if3 .left))
+
+returns-4 : tie.Need-returns-4
+returns-4 c = search needs
+
+read-stamped-requires : tie.Need-read-stamped-requires
+read-stamped-requires c κs = (omega arith, omega arith, c .if4 .left, le-leb 128 _ (c .before .if3 .left))
+
+returns-5 : tie.Need-returns-5
+returns-5 c = search needs
 
 pub read-fax-spec : {M : Type 1} → statement M
 read-fax-spec =
     tie.close
     (tie.spec
     returns
-    octet-requires
-    octet-requires-2
-    octet-requires-3
-    octet-requires-4
-    octet-requires-5
-    octet-requires-6
-    stamp-in-requires
-    ei2-in-requires
-    command-in-requires
-    spare-in-requires
-    judge-requires
-    returns-2)
+    shared-slice-read-first
+    returns-2
+    read-bare-requires
+    returns-3
+    read-on-requires
+    returns-4
+    read-stamped-requires
+    returns-5)

@@ -1,56 +1,36 @@
 -- `voice::sid::put_sid` meets its contract: what fits is two octets with noise, and none without.
-use Prim.Native.Nat.{ℕ, _+_, _*_, _≤_}
-use mathlib.Core.Path.{_≡_, refl, sym, ap, _∙_}
-use mathlib.Core.List.{List, [], _∷_}
-use native.Mathlib.Nat.{add-zero}
+use Prim.Native.Nat.{_≤_}
+use mathlib.Core.Path.{_≡_, sym, ap, _∙_}
+use mathlib.Core.List.{[]}
 use native.Mathlib.Omega.{arith}
 use mir.Syntax.{w8}
 use mir.Val.{SFits}
 use mir.ValLaws.{toZ-ofZ}
-use lib.ListN.{length, length-set}
-use lib.Seq.{sets-eq}
-use Rattle.octets.specs.declared.Fit.the-variants.{Octets}
-use Rattle.octets.specs.Made.{Made, made, fitOf}
-use Rattle.octets.proofs.MadeBack as back
-use Rattle.octets.proofs.Writes as writes
-use Rattle.voice.specs.Sid.{sidMade}
-use Rattle.voice.proofs.SidBack.{noise-octets, plain-octets}
+use Rattle.levels.specs.Level.{codeOf}
+use Rattle.octets.specs.Made.{Made, made}
+use Rattle.octets.proofs.MadeBack as writing
+use Rattle.voice.specs.declared.sid.Sid.{Sid}
+use Rattle.voice.specs.Sid.{magnitudeIn, octetsFor, sidMade}
+use Rattle.voice.proofs.SidCases as cases
 use borrow.Author.Needs.{needs}
 use Rattle.voice.proofs.sid.put_sid.Statement.{statement}
 use Rattle.voice.proofs.sid.put_sid.Tie as tie
 
 abbrev content : tie.Start → Made
-content c = sidMade (c .args .syntax) (c .args .sid)
+content s = sidMade (s .args .syntax) (s .args .sid)
 
-fits : (c : tie.After-size) → fitOf (content (c .before .before .before .before)) ≡ Octets (c .size .given .0 .0)
-fits c = sym (c .before .before .fit-sid .ensures) ∙ c .size .given .1
+-- what fits is made of its octets
+made-so : (c : tie.After-enum-told) → let s = c .before .before .before .before in content s ≡ made (octetsFor (s .args .sid))
+made-so c =
+    let s = c .before .before .before .before in
+    let m = writing.octets-made (content s) _ (sym (c .before .before .fit-sid .ensures) ∙ c .enum-told .given .1) in
+    m .1 ∙ ap made (sym (cases.made-passed (s .args .syntax) (s .args .sid) (m .0) (m .1) .1))
 
-has-room :
-    (c : tie.Else1) (octets : List ℕ)
-    → let a = c .before .before .before .before .before .before .before .args in content (c .before .before .before .before .before .before .before) ≡ made octets
-    → a .at + length octets ≤ length (a .room .now)
-has-room c octets e =
-    let a = c .before .before .before .before .before .before .before .args in
-    back.has-room (a .room .now) (a .at) (content (c .before .before .before .before .before .before .before)) _ _ (fits (c .before .before .before)) (c .before .exceeds .ensures) octets e (c .if1 .left)
-
--- with noise: the sequence and the magnitude, in two octets
-noise :
-    (c : tie.After-noise-code)
-    → (c .before .before .sid .given .0 .0 .0 ≤ 15)
-    × (content (c .before .before .before .before .before .before .before .before .before .before .before) ≡ made ((c .before .before .sid .given .0 .0 .0 * 16) ∷ c .noise-code .result ∷ []))
-noise c =
-    let a = c .before .before .before .before .before .before .before .before .before .before .before .args in
-    let sid = c .before .before .sid .given in
-    let m = back.octets-made (content (c .before .before .before .before .before .before .before .before .before .before .before)) _ (fits (c .before .before .before .before .before .before .before)) in
-    let level : SFits w8 (sid .0 .1 .0) = record { sfits = c .before .known-told3 .given .1 .0 .1 } in
-    let n =
-    noise-octets (a .syntax) (sid .0 .0) (sid .0 .1 .0) (c .noise-code .result) (m .0) (ap (sidMade (a .syntax)) (sym (sid .1)) ∙ m .1)
-    (rw (toZ-ofZ w8 (sid .0 .1 .0) level) at (c .noise-code .ensures))
-    in
-    (n .0, m .1 ∙ ap made (n .1))
-
-has-two : (c : tie.After-noise-code) → let a = c .before .before .before .before .before .before .before .before .before .before .before .args in a .at + 2 ≤ length (a .room .now)
-has-two c = has-room (c .before .before .before .before) _ (noise c .1)
+four-bits : (c : tie.After-known-told2) → c .before .sid .given .0 .0 .0 ≤ 15
+four-bits c =
+    let s = c .before .before .before .before .before .before .before in
+    let sid = c .before .sid .given in
+    cases.four-bits (s .args .syntax) (sid .0 .0) (sid .0 .1 .0) _ (ap (sidMade (s .args .syntax)) (sym (sid .1)) ∙ made-so (c .before .before .before))
 
 fit-sid-requires : tie.Need-fit-sid-requires
 fit-sid-requires c κs = search needs
@@ -58,64 +38,61 @@ fit-sid-requires c κs = search needs
 enum-known-number : tie.Need-enum-known-number
 enum-known-number c = search needs
 
-enum-known-size : tie.Need-enum-known-size
-enum-known-size c = search needs
-
-exceeds-requires : tie.Need-exceeds-requires
-exceeds-requires c κs = search needs
-
-returns : tie.Need-returns
-returns c =
-    let a = c .before .before .before .before .before .before .before .args in
-    back.no-room (a .room .now) (a .at) (content (c .before .before .before .before .before .before .before)) _ _ (fits (c .before .before .before)) (c .before .exceeds .ensures) (c .if1 .taken)
+enum-told : tie.Need-enum-told
+enum-told c = search needs
 
 enum-known-sid : tie.Need-enum-known-sid
 enum-known-sid c = search needs
 
-noise-code-requires : tie.Need-noise-code-requires
-noise-code-requires c κs = search needs
+mul-t13 : tie.Need-mul-t13
+mul-t13 c = omega (arith, four-bits (c .before))
 
-mul-room : tie.Need-mul-room
-mul-room c = omega (arith, noise (c .before) .0)
+magnitude-requires : tie.Need-magnitude-requires
+magnitude-requires c κs = search needs
 
-slice-write-room : tie.Need-slice-write-room
-slice-write-room c = omega (arith, has-two (c .before))
+slice-aggregate-put-octets : tie.Need-slice-aggregate-put-octets
+slice-aggregate-put-octets c = search needs
 
-add-room : tie.Need-add-room
-add-room c = omega (arith, has-two (c .before))
+put-octets-requires : tie.Need-put-octets-requires
+put-octets-requires c κs = search needs
 
-slice-write-room-2 : tie.Need-slice-write-room-2
-slice-write-room-2 c = simp length-set (omega (arith, has-two (c .before)))
+enum-told-2 : tie.Need-enum-told-2
+enum-told-2 c = search needs
 
-add-t17 : tie.Need-add-t17
-add-t17 c = omega (arith, has-two (c .before))
+slice-aggregate-put-octets-2 : tie.Need-slice-aggregate-put-octets-2
+slice-aggregate-put-octets-2 c = search needs
 
-enum-told : tie.Need-enum-told
-enum-told c = search needs
+put-octets-requires-2 : tie.Need-put-octets-requires-2
+put-octets-requires-2 c κs = search needs
 
-returns-2 : tie.Need-returns-2
-returns-2 c =
-    let a = c .before .before .before .before .before .args in
-    back.not-written (a .room .now) (a .at) (content (c .before .before .before .before .before)) _
-    (back.unfit-unmade (content (c .before .before .before .before .before)) _ (sym (c .before .before .before .fit-sid .ensures) ∙ c .before .number .given .1))
+returns : tie.Need-returns
+returns c =
+    let s = c .before .before .before .before .before in
+    writing.not-written (s .args .room .now) (s .args .at) (content s) _
+    (writing.unfit-unmade (content s) _ (sym (c .before .before .before .fit-sid .ensures) ∙ c .before .number .given .1))
 
 same-length : tie.Need-same-length
 same-length c = search needs
 
+returns-2 : tie.Need-returns-2
+returns-2 c =
+    let s = c .before .before .before .before .before .before .before .before .before .before .before .before .before .before in
+    let sid = c .before .before .before .before .before .before .before .before .sid .given in
+    let fits : SFits w8 (sid .0 .1 .0) = record { sfits = c .before .before .before .before .before .before .before .known-told2 .given .1 .0 .1 } in
+    let code : c .before .before .before .before .before .magnitude .result ≡ magnitudeIn (codeOf 63 (sid .0 .1 .0)) = rw (toZ-ofZ w8 (sid .0 .1 .0) fits) at (c .before .before .before .before .before .magnitude .ensures) in
+    writing.written-made (s .args .room .now) (s .args .at) (content s) _ _ _
+    (made-so (c .before .before .before .before .before .before .before .before .before .before) ∙ ap (λ (x : Sid). made (octetsFor x)) (sid .1))
+    (rw code at (c .before .before .put-octets .ensures .0))
+    (rw code at (c .before .before .put-octets .ensures .1))
+
+same-length-2 : tie.Need-same-length-2
+same-length-2 c = search needs
+
 returns-3 : tie.Need-returns-3
 returns-3 c =
-    let a = c .before .before .before .before .before .before .before .before .before .before .before .before .args in
-    back.stands (a .room .now) (a .at) (content (c .before .before .before .before .before .before .before .before .before .before .before .before)) _ _ _ (noise (c .before) .1) (has-two (c .before)) refl
-    (writes.two-stored (a .room .now) (a .at) _ _ (has-two (c .before)))
-
-returns-4 : tie.Need-returns-4
-returns-4 c =
-    let a = c .before .before .before .before .before .before .before .before .before .args in
-    let m = back.octets-made (content (c .before .before .before .before .before .before .before .before .before)) _ (fits (c .before .before .before .before .before)) in
-    let none = plain-octets (a .syntax) (m .0) (ap (sidMade (a .syntax)) (sym (c .enum-told .given .1)) ∙ m .1) in
-    let is : content (c .before .before .before .before .before .before .before .before .before) ≡ made [] = m .1 ∙ ap made none in
-    let room = has-room (c .before .before) [] is in
-    back.stands (a .room .now) (a .at) (content (c .before .before .before .before .before .before .before .before .before)) [] (a .room .now) (a .at) is room (sym (add-zero (a .at))) (sets-eq [] (a .room .now) (a .at) room)
+    let s = c .before .before .before .before .before .before .before .before .before .before .before in
+    let is : content s ≡ made [] = made-so (c .before .before .before .before .before .before .before) ∙ ap (λ (x : Sid). made (octetsFor x)) (c .before .before .before .before .before .enum-told2 .given .1) in
+    writing.written-made (s .args .room .now) (s .args .at) (content s) [] _ _ is (c .before .before .put-octets2 .ensures .0) (c .before .before .put-octets2 .ensures .1)
 
 pub put-sid-spec : {M : Type 1} → statement M
 put-sid-spec =
@@ -123,18 +100,17 @@ put-sid-spec =
     (tie.spec
     fit-sid-requires
     enum-known-number
-    enum-known-size
-    exceeds-requires
-    returns
-    enum-known-sid
-    noise-code-requires
-    mul-room
-    slice-write-room
-    add-room
-    slice-write-room-2
-    add-t17
     enum-told
-    returns-2
+    enum-known-sid
+    mul-t13
+    magnitude-requires
+    slice-aggregate-put-octets
+    put-octets-requires
+    enum-told-2
+    slice-aggregate-put-octets-2
+    put-octets-requires-2
+    returns
     same-length
-    returns-3
-    returns-4)
+    returns-2
+    same-length-2
+    returns-3)

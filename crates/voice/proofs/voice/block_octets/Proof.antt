@@ -11,13 +11,13 @@ enum-told-2 : tie.Need-enum-told-2
 enum-told-2 c = search needs
 
 pcm-octets-requires : tie.Need-pcm-octets-requires
-pcm-octets-requires c κs = search needs
+pcm-octets-requires c κs = rw (c .enum-told2 .given .1) at (c .before .before .pre)
 
 enum-told-3 : tie.Need-enum-told-3
 enum-told-3 c = search needs
 
 g727-octets-requires : tie.Need-g727-octets-requires
-g727-octets-requires c κs = search needs
+g727-octets-requires c κs = rw (c .enum-told3 .given .1) at (c .before .before .pre)
 
 enum-told-4 : tie.Need-enum-told-4
 enum-told-4 c = search needs
