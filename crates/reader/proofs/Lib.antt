@@ -2,3 +2,4 @@ pub mod Cases
 pub mod Yields
 pub mod Parts
 pub mod OneAnswer
+pub mod Lent

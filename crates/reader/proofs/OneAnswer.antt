@@ -1,5 +1,5 @@
--- One answer only, for the functions over a reader: the fact that each contract states, and that it has one answer. `step_from`
--- has plain parameters: its theorem is taken from its contract as any other's is.
+-- One answer only, for the functions over a reader: the fact that each contract states, and that it has one answer. The functions
+-- with plain parameters have their theorems in crate `settled`, as any other's.
 use Prim.Native.Nat.{ℕ}
 use mathlib.Core.Path.{_≡_, refl, sym, _∙_}
 use mathlib.Core.List.{List}
@@ -11,28 +11,30 @@ use prog.Routine.{Routine}
 use prog.Wp.{Heap}
 use contract.Lifetimes.{Lfts}
 use contract.Monad.{Fun, fact}
-use denote.Ref.{RefT}
+use denote.Ref.{RefT, now}
+use Rattle.frame.specs.declared.header.SubFrame.{SubFrame}
+use Rattle.reader.specs.declared.Found.{Found}
 use Rattle.reader.specs.declared.Reader.{Reader}
-use Rattle.reader.specs.Reading.{opened, stepped}
-use Rattle.reader.specs.Claims.{IsPayload, OneAnswer}
+use Rattle.reader.specs.Reading.{opened}
+use Rattle.reader.specs.Claims.{IsStep, IsPayload, OneAnswer}
 use Rattle.reader.proofs.open as opens
 use Rattle.reader.proofs.step as step
 use Rattle.reader.proofs.payload as payload
 
-module _ {M : Type 1} (𝓤 : URA M) (H : Heap 𝓤) (A : Atoms 𝓤) (mem : Memory → SProp 𝓤) (run : Routine → Fun 𝓤) (κs : Lfts 1) where
-  pub open-says : (frame last : RefT (List ℕ)) (r : Reader) → opens.clauses 𝓤 H A mem run κs (frame, tt) .ensures tt r (last, tt) ≡ fact 𝓤 (r ≡ opened frame)
-  open-says frame last r = refl
+module _ {M : Type 1} (𝓤 : URA M) (H : Heap 𝓤) (A : Atoms 𝓤) (mem : Memory → SProp 𝓤) (run : Routine → Fun 𝓤) where
+  pub open-says : (κs : Lfts 1) (frame last : RefT (List ℕ)) (r : Reader) → opens.clauses 𝓤 H A mem run κs (frame, tt) .ensures tt r (last, tt) ≡ fact 𝓤 (r ≡ opened frame)
+  open-says κs frame last r = refl
 
-  pub step-says : (d last r : Reader) → step.clauses 𝓤 H A mem run κs (d, tt) .ensures tt r (last, tt) ≡ fact 𝓤 (r ≡ stepped d)
-  step-says d last r = refl
+  pub step-says : (κs : Lfts 2) (d last : RefT Reader) (f : Found) → step.clauses 𝓤 H A mem run κs (d, tt) .ensures tt f (last, tt) ≡ fact 𝓤 (IsStep (now d) f (now last))
+  step-says κs d last f = refl
 
-  pub payload-says : (d last : Reader) (r : RefT (List ℕ)) → payload.clauses 𝓤 H A mem run κs (d, tt) .ensures tt r (last, tt) ≡ fact 𝓤 (IsPayload d r)
-  payload-says d last r = refl
+  pub payload-says : (κs : Lfts 1) (d last : Reader) (sub end : SubFrame) (r : RefT (List ℕ)) → payload.clauses 𝓤 H A mem run κs (d, (sub, tt)) .ensures tt r (last, (end, tt)) ≡ fact 𝓤 (IsPayload d sub r)
+  payload-says κs d last sub end r = refl
 
 pub one-answer : OneAnswer
 one-answer =
     record {
       open-one = λ frame p q a b. a ∙ sym b;
-      step-one = λ r p q a b. a ∙ sym b;
-      payload-one = λ r x y a b. (a .0 ∙ sym (b .0), a .1 ∙ sym (b .1));
+      step-one = λ r f g p q a b. (a .0 ∙ sym (b .0), a .1 ∙ sym (b .1));
+      payload-one = λ r sub x y a b. (a .0 ∙ sym (b .0), a .1 ∙ sym (b .1));
     }

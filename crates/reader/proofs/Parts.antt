@@ -12,9 +12,9 @@ use Rattle.frame.specs.Header.{headerAt}
 use Rattle.frame.specs.Opening.{endOf}
 use Rattle.frame.proofs.HeaderInverse as inverse
 use Rattle.reader.specs.declared.Found.{Found}
-use Rattle.reader.specs.declared.Found.the-variants.{Refused, Sub, NoMore}
+use Rattle.reader.specs.declared.Found.the-variants.{Sub, NoMore}
 use Rattle.reader.specs.declared.Place.{Place}
-use Rattle.reader.specs.Reading.{nextOf, payloadOf, payloadAt}
+use Rattle.reader.specs.Reading.{met, nextOf}
 use Rattle.reader.specs.Claims.{PayloadsArePartsOfTheFrame}
 use Rattle.reader.proofs.Cases as cases
 
@@ -22,28 +22,23 @@ use Rattle.reader.proofs.Cases as cases
 same-sub : (f : Found) (x y : SubFrame) → f ≡ Sub x → f ≡ Sub y → x ≡ y
 same-sub f x y p q = cc
 
-never-refused : {A : Type 0} (f : Found) (number at : ℕ) (sub : SubFrame) → f ≡ Refused number at → f ≡ Sub sub → A
-never-refused f number at sub p q = let z : _≡_ {A = ℕ} 0 1 = cc in absurd (omega arith)
-
 never-none : {A : Type 0} (f : Found) (sub : SubFrame) → f ≡ NoMore → f ≡ Sub sub → A
 never-none f sub p q = let z : _≡_ {A = ℕ} 0 1 = cc in absurd (omega arith)
 
 module _ (s : List ℕ) (at : ℕ) (sub : SubFrame) (e : nextOf s at .found ≡ Sub sub) where
+  tells : (h : Header) → headerAt s at ≡ h → nextOf s at .found ≡ met h at (length s) .found
+  tells h t = ap (λ (p : Place). p .found) (cases.goes-on s at h t)
+
   told : (h : Header) → headerAt s at ≡ h → headerAt s at ≡ header.Sub sub
-  told (header.Sub x) t = t ∙ ap (λ (y : SubFrame). header.Sub y) (same-sub _ x sub (ap (λ (p : Place). p .found) (cases.goes-on s at (header.Sub x) t)) e)
-  told (header.Bad number) t = never-refused _ number at sub (ap (λ (p : Place). p .found) (cases.goes-on s at (header.Bad number) t)) e
-  told header.Past t = never-none _ sub (ap (λ (p : Place). p .found) (cases.goes-on s at header.Past t)) e
+  told (header.Sub x) t = t ∙ ap (λ (y : SubFrame). header.Sub y) (same-sub _ x sub (tells (header.Sub x) t) e)
+  told (header.Bad number) t = never-none _ sub (tells (header.Bad number) t) e
+  told header.Past t = never-none _ sub (tells header.Past t) e
 
   ends-within : endOf sub ≤ length s
   ends-within = inverse.ends-within s at sub (told (headerAt s at) refl)
 
 pub payloads-are-parts-of-the-frame : PayloadsArePartsOfTheFrame
 payloads-are-parts-of-the-frame r sub e =
-    let s = now (r .frame) in
-    let within = ends-within s (r .at) sub e in
-    let w = cases.whole s (ptr (r .frame)) (sub .start) (sub .len) within in
-    record {
-      within = within;
-      octets = ap (payloadOf s) e ∙ w .0;
-      place = ap (payloadAt s (ptr (r .frame))) e ∙ w .1;
-    }
+    let within = ends-within (now (r .frame)) (r .at) sub e in
+    let w = cases.whole (now (r .frame)) (ptr (r .frame)) sub within in
+    record { within = within; octets = w .0; place = w .1 }

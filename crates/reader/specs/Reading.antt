@@ -1,33 +1,30 @@
 -- The frame reader (document 01: "Opening a frame checks all its headers. A frame reader then holds the lent frame and its
 -- place in it, and yields sub-frames in order, payloads as parts of the frame").
-use Prim.Native.Nat.{ℕ, _+_}
-use mathlib.Core.List.{List, []}
+use Prim.Native.Nat.{ℕ, zero, suc, _+_}
+use mathlib.Core.List.{List, [], _∷_}
 use mathlib.Core.Bool.{cond}
 use lib.Dec.{ltb, eqb}
 use lib.ListN.{length, take, drop}
 use denote.Ref.{RefT, now}
 use Rattle.refusal.specs.Numbers.{sound}
+use Rattle.frame.specs.declared.header.SubFrame.{SubFrame}
 use Rattle.frame.specs.declared.header.Header.{Header}
 use Rattle.frame.specs.declared.header.Header.the-variants as header
 use Rattle.frame.specs.Header.{headerAt}
-use Rattle.frame.specs.Opening.{Opening, opening, endOf}
+use Rattle.frame.specs.Opening.{opening, endOf}
 use Rattle.reader.specs.declared.Found.{Found}
-use Rattle.reader.specs.declared.Found.the-variants.{Sound, Refused, Sub, NoMore}
+use Rattle.reader.specs.declared.Found.the-variants.{Sub, NoMore}
 use Rattle.reader.specs.declared.Place.{Place}
 use Rattle.reader.specs.declared.Reader.{Reader}
 
--- Before the first sub-frame of a sound frame; at the end of a refused one, with its number and the offending place.
-abbrev pub begun : Opening → ℕ → Place
-begun o end =
-    cond (eqb (o .number) sound) (record { at = 0; found = Sound }) (record { at = end; found = Refused (o .number) (o .at) })
-
-unfoldable pub startOf : List ℕ → Place
-startOf s = begun (opening s) (length s)
+-- Before the first sub-frame of a sound frame; at the end of a refused one.
+unfoldable pub startOf : List ℕ → ℕ
+startOf s = cond (eqb (opening s .number) sound) 0 (length s)
 
 -- What a header at a place tells a reader: its sub-frame, and the place after it. A header that is refused ends the reading.
 abbrev pub met : Header → ℕ → ℕ → Place
 met (header.Sub sub) at end = record { at = endOf sub; found = Sub sub }
-met (header.Bad number) at end = record { at = end; found = Refused number at }
+met (header.Bad number) at end = record { at = end; found = NoMore }
 met header.Past at end = record { at = at; found = NoMore }
 
 unfoldable pub nextOf : List ℕ → ℕ → Place
@@ -35,30 +32,28 @@ nextOf s at = met (headerAt s at) at (length s)
 
 -- The reader that opening a lent frame gives.
 abbrev pub opened : RefT (List ℕ) → Reader
-opened frame = record { frame = frame; at = startOf (now frame) .at; found = startOf (now frame) .found }
+opened frame = record { frame = frame; at = startOf (now frame) }
 
--- The reader after one more step: the same frame, the next place, and the sub-frame that stands between.
+-- A step: what it yields, and the reader after it, which holds the same frame and stands at the next place.
+abbrev pub found : Reader → Found
+found r = nextOf (now (r .frame)) (r .at) .found
+
 abbrev pub stepped : Reader → Reader
-stepped r =
-    record { frame = r .frame; at = nextOf (now (r .frame)) (r .at) .at; found = nextOf (now (r .frame)) (r .at) .found }
+stepped r = record { frame = r .frame; at = nextOf (now (r .frame)) (r .at) .at }
 
--- The `len` octets of the frame s from `start` on, and where they lie, a block of memory and a place in it: nothing, at the
--- frame's first octet, where s has fewer.
-unfoldable pub cutOf : List ℕ → ℕ → ℕ → List ℕ
-cutOf s start len = cond (ltb (length s) (start + len)) [] (take len (drop start s))
+-- "payloads as parts of the frame": the payload of a sub-frame is the `len` octets of the frame s from `start` on. They lie in a
+-- block of memory, at a place in it. Where s has fewer it is nothing, at the frame's first octet.
+unfoldable pub payloadOf : List ℕ → SubFrame → List ℕ
+payloadOf s sub = cond (ltb (length s) (endOf sub)) [] (take (sub .len) (drop (sub .start) s))
 
-unfoldable pub cutAt : List ℕ → ℕ × ℕ → ℕ → ℕ → ℕ × ℕ
-cutAt s place start len = cond (ltb (length s) (start + len)) place (place .0, place .1 + start)
+unfoldable pub payloadAt : List ℕ → ℕ × ℕ → SubFrame → ℕ × ℕ
+payloadAt s place sub = cond (ltb (length s) (endOf sub)) place (place .0, place .1 + sub .start)
 
--- "payloads as parts of the frame": the payload of the sub-frame that was found, and where it lies.
-abbrev pub payloadOf : List ℕ → Found → List ℕ
-payloadOf s Sound = []
-payloadOf s (Refused number at) = []
-payloadOf s (Sub sub) = cutOf s (sub .start) (sub .len)
-payloadOf s NoMore = []
+-- The sub-frame that stands in a list after n others.
+abbrev pub after : ℕ → List SubFrame → Found
+after n [] = NoMore
+after zero (sub ∷ subs) = Sub sub
+after (suc n) (sub ∷ subs) = after n subs
 
-abbrev pub payloadAt : List ℕ → ℕ × ℕ → Found → ℕ × ℕ
-payloadAt s place Sound = place
-payloadAt s place (Refused number at) = place
-payloadAt s place (Sub sub) = cutAt s place (sub .start) (sub .len)
-payloadAt s place NoMore = place
+unfoldable pub nthOf : List ℕ → ℕ → Found
+nthOf s n = after n (opening s .subs)
