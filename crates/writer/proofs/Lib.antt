@@ -1,5 +1,5 @@
+pub mod Tables
 pub mod PlaceCases
-pub mod RoomParts
 pub mod WriteCases
 pub mod WriteBack
 pub mod Examples

@@ -1,15 +1,15 @@
--- What the tests on the writer's place tell, in the order of the refusals.
+-- What the tests on a sub-channel and on a place tell, in the order of the refusals.
 use Prim.Native.Nat.{ℕ, _+_, _-_, _%_, _<_, _≤_}
 use mathlib.Core.Path.{_≡_, refl, sym, ap, _∙_}
-use mathlib.Core.Logic.{_⊎_, ⊎-elim}
-use mathlib.Core.List.{List}
-use mathlib.Core.Bool.{Bool, true, false, cond}
+use mathlib.Core.List.{List, [], _∷_}
+use mathlib.Core.Bool.{Bool, true, false}
 use native.Mathlib.Omega.{arith}
-use borrow.Author.Tests.{lt-ltb, le-ltb, ltb-false}
+use borrow.Author.Tests.{lt-ltb, le-ltb, ltb-true, ltb-false}
 use lib.Dec.{ltb}
 use lib.ListN.{length}
 use Rattle.refusal.specs.Numbers.{cidReserved, notProvisioned, roomTooSmall, tooLongNotLast, frameFull, alreadyLast}
-use Rattle.octets.proofs.Order.{clash, either, lt-or-le}
+use Rattle.refusal.specs.Order.{Test, _gives_}
+use Rattle.octets.proofs.Order.{clash}
 use Rattle.record.specs.declared.syntax.Record.{Record}
 use Rattle.record.specs.declared.table.Found.{Found}
 use Rattle.record.specs.declared.table.Found.the-variants.{Provisioned, Unprovisioned}
@@ -18,19 +18,20 @@ use Rattle.octets.specs.declared.Fit.the-variants.{Octets, Unfit}
 use Rattle.octets.specs.declared.Put.{Put}
 use Rattle.octets.specs.declared.Put.the-variants.{Written}
 use Rattle.octets.specs.Room.{written, leftBy}
+use Rattle.frame.specs.Opening.{mostOctets, mostSubFrames}
 use Rattle.frame.specs.Joining.{headerSize, shortestHeader, headerPut}
 use Rattle.frame.proofs.HeaderWritten as header
-use Rattle.frame.proofs.HeaderWritten.{some-room}
 use Rattle.payload.specs.declared.layout.Kind.{Kind}
 use Rattle.payload.specs.declared.layout.TypeFor.{TypeFor}
 use Rattle.payload.specs.declared.layout.TypeFor.the-variants.{Typed, NoType}
 use Rattle.payload.specs.Layout.{typeFor}
 use Rattle.writer.specs.declared.place.Writer.{Writer}
+use Rattle.writer.specs.declared.place.Channel.{Channel}
 use Rattle.writer.specs.declared.place.Channel.the-variants.{Takes, TakesNot}
 use Rattle.writer.specs.declared.place.Entered.{Entered}
 use Rattle.writer.specs.declared.place.Entered.the-variants.{Place, NoPlace}
-use Rattle.writer.specs.Writer.{onChannel, channelFor, tooLong, full, placed, entered}
-use Rattle.writer.specs.Spot.{nextOf, NotPlaced}
+use Rattle.writer.specs.Writer.{typedOn, onChannel, channelFor, mostNotLast, tooLong, full, placed, entered}
+use Rattle.writer.proofs.Tables.{Passed, passed}
 
 -- 24, 4, 11, 12
 module _ (w : Writer) (found : Found) (cid : ℕ) (kind : Kind) where
@@ -44,53 +45,38 @@ module _ (w : Writer) (found : Found) (cid : ℕ) (kind : Kind) where
     reserved h = simp (going, lt-ltb cid 4 h)
 
     module _ (free : 4 ≤ cid) where
-      pub by-record : onChannel (typeFor found kind) found ≡ channelFor w found cid kind
+      pub by-record : onChannel found kind ≡ channelFor w found cid kind
       unfolding channelFor
       by-record = simp (going, le-ltb cid 4 free)
 
-      module _ {f : Found} (is : f ≡ found) {t : TypeFor} (told : t ≡ typeFor f kind) where
-        told-of : t ≡ typeFor found kind
-        told-of = told ∙ ap (λ (x : Found). typeFor x kind) is
+      module _ {f : Found} (is : f ≡ found) where
+        pub none : f ≡ Unprovisioned → TakesNot notProvisioned ≡ channelFor w found cid kind
+        none e = ap (λ (x : Found). onChannel x kind) (sym e ∙ is) ∙ by-record
 
-        pub no-type : (number : ℕ) → t ≡ NoType number → TakesNot number ≡ channelFor w found cid kind
-        no-type number e = ap (λ (x : TypeFor). onChannel x found) (sym e ∙ told-of) ∙ by-record
-
-        pub takes : (ptype : ℕ) (r : Record) → t ≡ Typed ptype → f ≡ Provisioned r → Takes r ptype ≡ channelFor w found cid kind
-        takes ptype r e p =
-            ap (onChannel (Typed ptype)) (sym p ∙ is) ∙ ap (λ (x : TypeFor). onChannel x found) (sym e ∙ told-of) ∙ by-record
-
-        pub none : (ptype : ℕ) → t ≡ Typed ptype → f ≡ Unprovisioned → TakesNot notProvisioned ≡ channelFor w found cid kind
-        none ptype e p =
-            ap (onChannel (Typed ptype)) (sym p ∙ is) ∙ ap (λ (x : TypeFor). onChannel x found) (sym e ∙ told-of) ∙ by-record
+        pub typed : (r : Record) {t given : TypeFor}
+            → f ≡ Provisioned r
+            → t ≡ typeFor (Provisioned r) kind
+            → t ≡ given
+            → typedOn r given ≡ channelFor w found cid kind
+        typed r p told e = ap (typedOn r) (sym e ∙ told) ∙ ap (λ (x : Found). onChannel x kind) (sym p ∙ is) ∙ by-record
 
 -- 23
 module _ (w : Writer) (header len : ℕ) where
-  pub many : 64 ≤ w .count → true ≡ full w (w .at + header + len)
-  many h = simp (lt-ltb 64 (w .count + 1) (omega arith))
+  pub many : mostSubFrames ≤ w .count → true ≡ full w (w .at + header + len)
+  many h = simp (lt-ltb mostSubFrames (w .count + 1) (omega arith))
 
-  module _ (more : w .count < 64) where
-    pub by-octets : ltb 1600 (w .at + header + len) ≡ full w (w .at + header + len)
-    by-octets = simp (le-ltb 64 (w .count + 1) (omega arith))
+  module _ (more : w .count < mostSubFrames) where
+    pub by-octets : ltb mostOctets (w .at + header + len) ≡ full w (w .at + header + len)
+    by-octets = simp (le-ltb mostSubFrames (w .count + 1) (omega arith))
 
-    pub past : 1600 < w .at + header + len → true ≡ full w (w .at + header + len)
-    past h = sym (lt-ltb 1600 (w .at + header + len) h) ∙ by-octets
+    pub past : mostOctets < w .at + header → true ≡ full w (w .at + header + len)
+    past h = sym (lt-ltb mostOctets (w .at + header + len) (omega arith)) ∙ by-octets
 
-    pub left :
-        w .at ≤ 1600
-        → header ≤ 1600 - w .at
-        → ltb (1600 - w .at - header) len ≡ full w (w .at + header + len)
-    left here there =
-        ⊎-elim
-        (λ h. lt-ltb (1600 - w .at - header) len h ∙ past (omega arith))
-        (λ h. le-ltb (1600 - w .at - header) len h ∙ sym (le-ltb 1600 (w .at + header + len) (omega arith)) ∙ by-octets)
-        (lt-or-le (1600 - w .at - header) len)
-
-pub within : (w : Writer) (end : ℕ) → full w end ≡ false → (w .count + 1 ≤ 64) × (end ≤ 1600)
+-- where a sub-frame may end
+pub within : (w : Writer) (end : ℕ) → full w end ≡ false → (w .count + 1 ≤ mostSubFrames) × (end ≤ mostOctets)
 within w end e =
-    either (λ t. clash true refl (sym (ap (λ (x : Bool). cond x true (ltb 1600 end)) t) ∙ e))
-    (λ t. (ltb-false 64 (w .count + 1) t, ltb-false 1600 end (sym (ap (λ (x : Bool). cond x true (ltb 1600 end)) t) ∙ e)))
-    (ltb 64 (w .count + 1))
-    refl
+    let pass = passed (ltb mostSubFrames (w .count + 1) gives 0 ∷ []) (λ n. true) (ltb mostOctets end) false (λ n. clash true refl) e in
+    (ltb-false mostSubFrames (w .count + 1) (pass .0 .0), ltb-false mostOctets end (pass .1))
 
 -- 22, 23, 21, with a header of so many octets
 module _ (room : ℕ) (w : Writer) (last : Bool) (cid ptype len : ℕ) where
@@ -115,52 +101,39 @@ module _ (room : ℕ) (w : Writer) (last : Bool) (cid ptype len : ℕ) where
       unfolding placed
       has-place h = rw is (simp (short, rw is at fits, le-ltb room (w .at + headerSize cid ptype last + len) (rw is at h)))
 
--- what has its place
+-- what is known of a payload that has its place
 pub record Placed (room : ℕ) (w : Writer) (last : Bool) (cid ptype len start : ℕ) (next : Writer) : Type 0 where
   pub short : tooLong last len ≡ false
   pub starts : start ≡ w .at + headerSize cid ptype last
   pub goes-on : next ≡ record { at = start + len; count = w .count + 1; done = last }
   pub inside : start + len ≤ room
-  pub within : start + len ≤ 1600
-  pub few : w .count + 1 ≤ 64
+  pub within : start + len ≤ mostOctets
+  pub few : w .count + 1 ≤ mostSubFrames
 
-no-place : {A : Type 0} (e : Entered) (number start : ℕ) (next : Writer) → e ≡ NoPlace number → e ≡ Place start next → A
-no-place e number start next p q = let z : _≡_ {A = ℕ} 0 1 = cc in absurd (omega arith)
+pub never : {A : Type 0} (number start : ℕ) (next : Writer) → NoPlace number ≡ Place start next → A
+never number start next e = let z : _≡_ {A = ℕ} 0 1 = cc in absurd (omega arith)
 
-same-start : (a b : ℕ) (v w : Writer) → Place a v ≡ Place b w → (a ≡ b) × (v ≡ w)
-same-start a b v w e = (cc, cc)
+same-place : (a b : ℕ) (v w : Writer) → Place a v ≡ Place b w → (a ≡ b) × (v ≡ w)
+same-place a b v w e = (cc, cc)
 
-module _ (room : ℕ) (w : Writer) (last : Bool) (cid ptype len start : ℕ) (next : Writer)
-    (is : placed room w last cid ptype len ≡ Place start next) where
-  end : ℕ
-  end = w .at + headerSize cid ptype last + len
-
-  in-place : tooLong last len ≡ false → full w end ≡ false → end ≤ room → Placed room w last cid ptype len start next
-  unfolding end
-  in-place short fits inside =
-      let same = same-start _ _ _ _ (has-place room w last cid ptype len short refl fits inside ∙ is) in
-      let most = within w end fits in
-      record {
-        short = short;
-        starts = sym (same .0);
-        goes-on = sym (same .1) ∙ ap (λ (s : ℕ). record { at = s + len; count = w .count + 1; done = last }) (same .0);
-        inside = rw (← same .0) inside;
-        within = rw (← same .0) (most .1);
-        few = most .0;
-      }
-
-  pub placed-back : Placed room w last cid ptype len start next
-  unfolding end
-  placed-back =
-      either (λ t. no-place _ _ start next (sym (long room w last cid ptype len t)) is)
-      (λ short.
-      either (λ t. no-place _ _ start next (sym (passes room w last cid ptype len short refl t)) is)
-      (λ fits.
-      ⊎-elim (λ h. no-place _ _ start next (sym (small room w last cid ptype len short refl fits h)) is) (in-place short fits) (lt-or-le room end))
-      (full w end)
-      refl)
-      (tooLong last len)
-      refl
+pub placed-back : (room : ℕ) (w : Writer) (last : Bool) (cid ptype len start : ℕ) (next : Writer)
+    → placed room w last cid ptype len ≡ Place start next
+    → Placed room w last cid ptype len start next
+unfolding placed
+placed-back room w last cid ptype len start next is =
+    let begins : ℕ = w .at + headerSize cid ptype last in
+    let tests : List Test = tooLong last len gives tooLongNotLast ∷ full w (begins + len) gives frameFull ∷ ltb room (begins + len) gives roomTooSmall ∷ [] in
+    let pass = passed tests NoPlace (Place begins (record { at = begins + len; count = w .count + 1; done = last })) (Place start next) (λ n. never n start next) is in
+    let same = same-place _ _ _ _ (pass .1) in
+    let most = within w (begins + len) (pass .0 .1 .0) in
+    record {
+      short = pass .0 .0;
+      starts = sym (same .0);
+      goes-on = sym (same .1) ∙ ap (λ (s : ℕ). record { at = s + len; count = w .count + 1; done = last }) (same .0);
+      inside = rw (← same .0) (ltb-false room (begins + len) (pass .0 .1 .1 .0));
+      within = rw (← same .0) (most .1);
+      few = most .0;
+    }
 
 -- a header's length octet is the payload's length, or is not there
 octet-of : (cid ptype : ℕ) (last : Bool) (len : ℕ)
@@ -169,145 +142,62 @@ octet-of : (cid ptype : ℕ) (last : Bool) (len : ℕ)
 unfolding shortestHeader
 octet-of cid ptype true len short = refl
 octet-of cid ptype false len short =
-    let same : len % 256 ≡ len = omega (arith, ltb-false 255 len short) in
+    let same : len % 256 ≡ len = omega (arith, ltb-false mostNotLast len short) in
     ap (shortestHeader cid ptype false) same
 
--- a header before a payload that has its place
-pub led : (room : List ℕ) (w : Writer) (last : Bool) (cid ptype start end : ℕ) (put : Put) (left : List ℕ)
-    → 4 ≤ cid
-    → ptype ≤ 15
-    → placed (length room) w last cid ptype (end - start) ≡ Place start (nextOf w end last)
-    → put ≡ headerPut (length room - w .at) (w .at) cid ptype last
-    → left ≡ leftBy put room (w .at) (shortestHeader cid ptype last ((end - start) % 256))
-    → left ≡ written room (w .at) (shortestHeader cid ptype last (end - start))
-led room w last cid ptype start end put left free four-bits has answered leaves =
-    let len = end - start in
-    let there = placed-back (length room) w last cid ptype len start (nextOf w end last) has in
-    let size = headerSize cid ptype last in
-    let begins : start ≡ w .at + size = there .starts in
-    let ends : start + len ≤ length room = there .inside in
-    let room-left : size ≤ length room - w .at = omega arith in
-    let wrote : put ≡ Written (w .at + size) = answered ∙ sym (header.taken (length room - w .at) (w .at) cid ptype last free four-bits room-left) in
-    leaves ∙ ap (λ (p : Put). leftBy p room (w .at) (shortestHeader cid ptype last (len % 256))) wrote
-    ∙ ap (written room (w .at)) (octet-of cid ptype last len (there .short))
+-- 13 to 16, then those; and the header before a payload that has its place
+module _ (room : List ℕ) (w : Writer) (last : Bool) (cid ptype : ℕ) (fit : Fit) where
+  abbrev pub Enters : Entered → List ℕ → Type 0
+  Enters e left =
+      (e ≡ entered (length room) w last cid ptype fit)
+      × (((start : ℕ) (next : Writer) → e ≡ Place start next → left ≡ written room (w .at) (shortestHeader cid ptype last (next .at - start)))
+      × ((number : ℕ) → e ≡ NoPlace number → left ≡ room))
 
-same-number : (a b : ℕ) → NoPlace a ≡ NoPlace b → a ≡ b
-same-number a b e = cc
+  refused : (number : ℕ) → NoPlace number ≡ entered (length room) w last cid ptype fit → Enters (NoPlace number) room
+  refused number is = (is, (λ start next e. never number start next e, λ n e. refl))
 
-never-place : {A : Type 0} (start number : ℕ) (next : Writer) → Place start next ≡ NoPlace number → A
-never-place start number next e = let z : _≡_ {A = ℕ} 0 1 = cc in absurd (omega arith)
+  pub unfit : {number : ℕ} → fit ≡ Unfit number → Enters (NoPlace number) room
+  unfit is = refused _ (sym (ap (entered (length room) w last cid ptype) is))
 
--- the number of what has no place
-module _ (w : Writer) (last : Bool) (cid ptype : ℕ) (fit : Fit) where
-  pub unfit : (n : ℕ) → fit ≡ Unfit n → (room number : ℕ) → entered room w last cid ptype fit ≡ NoPlace number → n ≡ number
-  unfit n is room number e = same-number n number (ap (entered room w last cid ptype) (sym is) ∙ e)
+  module _ {len : ℕ} (is : fit ≡ Octets len) where
+    by-place : {e : Entered} → e ≡ placed (length room) w last cid ptype len → e ≡ entered (length room) w last cid ptype fit
+    by-place told = told ∙ sym (ap (entered (length room) w last cid ptype) is)
 
-  module _ (len : ℕ) (is : fit ≡ Octets len) where
-    unplaced : (room number : ℕ) → entered room w last cid ptype fit ≡ NoPlace number → placed room w last cid ptype len ≡ NoPlace number
-    unplaced room number e = ap (entered room w last cid ptype) (sym is) ∙ e
+    pub is-long : tooLong last len ≡ true → Enters (NoPlace tooLongNotLast) room
+    is-long t = refused _ (by-place (long (length room) w last cid ptype len t))
 
-    pub is-long : tooLong last len ≡ true → (room number : ℕ) → entered room w last cid ptype fit ≡ NoPlace number → tooLongNotLast ≡ number
-    is-long t room number e = same-number _ number (long room w last cid ptype len t ∙ unplaced room number e)
+    module _ (short : tooLong last len ≡ false) {size : ℕ} (sized : size ≡ headerSize cid ptype last) where
+      pub is-full : full w (w .at + size + len) ≡ true → Enters (NoPlace frameFull) room
+      is-full t = refused _ (by-place (passes (length room) w last cid ptype len short sized t))
 
-    module _ (short : tooLong last len ≡ false) {header : ℕ} (sized : header ≡ headerSize cid ptype last) where
-      pub is-full :
-          full w (w .at + header + len) ≡ true
-          → (room number : ℕ)
-          → entered room w last cid ptype fit ≡ NoPlace number
-          → frameFull ≡ number
-      is-full t room number e = same-number _ number (passes room w last cid ptype len short sized t ∙ unplaced room number e)
+      module _ (fits : full w (w .at + size + len) ≡ false) where
+        pub is-small : length room < w .at + size + len → Enters (NoPlace roomTooSmall) room
+        is-small h = refused _ (by-place (small (length room) w last cid ptype len short sized fits h))
 
-      pub is-small :
-          full w (w .at + header + len) ≡ false
-          → (room number : ℕ)
-          → entered room w last cid ptype fit ≡ NoPlace number
-          → roomTooSmall ≡ number
-      is-small fits room number e =
-          ⊎-elim
-          (λ h. same-number _ number (small room w last cid ptype len short sized fits h ∙ unplaced room number e))
-          (λ h. never-place _ number _ (has-place room w last cid ptype len short sized fits h ∙ unplaced room number e))
-          (lt-or-le room (w .at + header + len))
-
--- a header has three octets at most
-pub few-octets : {header : ℕ} (cid ptype : ℕ) (last : Bool) → header ≡ headerSize cid ptype last → header ≤ 3
-unfolding headerSize
-few-octets cid ptype true is =
-    ⊎-elim (λ e. omega (arith, e, is)) (λ e. omega (arith, e, is)) (header.ei-one-of cid ptype)
-few-octets cid ptype false is =
-    ⊎-elim (λ e. omega (arith, e, is)) (λ e. omega (arith, e, is)) (header.ei-one-of cid ptype)
-
-cond-false : (b c : Bool) → c ≡ false → cond b false c ≡ false
-cond-false true c e = refl
-cond-false false c e = e
-
--- Where the next payload begins and how far it may reach.
-module _ (room : ℕ) (w : Writer) (last : Bool) (cid ptype : ℕ) where
-  abbrev Spotted : ℕ → ℕ → Type 0
-  Spotted start limit =
-      (limit ≤ room)
-      × (((len : ℕ) → start + len ≤ limit → placed room w last cid ptype len ≡ Place start (nextOf w (start + len) last))
-      × ((len : ℕ) → limit < start + len → NotPlaced (placed room w last cid ptype len)))
-
-  module _ {header : ℕ} (is : header ≡ headerSize cid ptype last) where
-    over : (len : ℕ) → (64 ≤ w .count) ⊎ (1600 < w .at) → true ≡ full w (w .at + header + len)
-    over len no-more =
-        ⊎-elim (λ h. many w header len h)
-        (λ h. ⊎-elim (λ more. past w header len more (omega (arith, h))) (λ c. many w header len c) (lt-or-le (w .count) 64))
-        no-more
-
-    pub nowhere : (64 ≤ w .count) ⊎ (1600 < w .at) → Spotted header 0
-    nowhere no-more =
-        let some : 1 ≤ header = rw is (some-room cid ptype last) in (
-          omega arith,
-          (
-            λ len h. absurd (omega (arith, h, some)),
-            λ len h.
-                either (λ t. (tooLongNotLast, sym (long room w last cid ptype len t)))
-                (λ short. (frameFull, sym (passes room w last cid ptype len short is (sym (over len no-more)))))
-                (tooLong last len)
-                refl,
-          ),
-        )
-
-    module _ (more : w .count < 64) (limit : ℕ) (in-room : limit ≤ room) (in-frame : limit ≤ 1600)
-        (in-octet : (last ≡ true) ⊎ (limit ≤ w .at + header + 255))
-        (no-less : (limit ≡ room) ⊎ (limit ≡ 1600) ⊎ ((last ≡ false) × (limit ≡ w .at + header + 255))) where
-      within-limit : (len : ℕ)
-          → w .at + header + len ≤ limit
-          → placed room w last cid ptype len ≡ Place (w .at + header) (nextOf w (w .at + header + len) last)
-      within-limit len h =
-          let short : tooLong last len ≡ false =
-          ⊎-elim (λ e. ap (λ (l : Bool). cond l false (ltb 255 len)) e)
-          (λ o. cond-false last (ltb 255 len) (le-ltb 255 len (omega (arith, o, h))))
-          in-octet
-          in
-          let fits : full w (w .at + header + len) ≡ false =
-          sym (by-octets w header len more) ∙ le-ltb 1600 (w .at + header + len) (omega (arith, h, in-frame))
-          in
-          sym (has-place room w last cid ptype len short is fits (omega (arith, h, in-room)))
-
-      beyond-limit : (len : ℕ) → limit < w .at + header + len → NotPlaced (placed room w last cid ptype len)
-      beyond-limit len h =
-          either (λ t. (tooLongNotLast, sym (long room w last cid ptype len t)))
-          (λ short.
-          either (λ t. (frameFull, sym (passes room w last cid ptype len short is t)))
-          (λ fits.
-          ⊎-elim (λ s. (roomTooSmall, sym (small room w last cid ptype len short is fits s)))
-          (λ inside.
-          let few = within w (w .at + header + len) fits .1 in
-          ⊎-elim (λ e. absurd (omega (arith, e, h, inside)))
-          (λ other.
-          ⊎-elim (λ e. absurd (omega (arith, e, h, few)))
-          (λ e.
-          let len-few : len ≤ 255 = ltb-false 255 len (sym (ap (λ (l : Bool). cond l false (ltb 255 len)) (e .0)) ∙ short) in
-          absurd (omega (arith, e .1, h, len-few)))
-          other)
-          no-less)
-          (lt-or-le room (w .at + header + len)))
-          (full w (w .at + header + len))
-          refl)
-          (tooLong last len)
-          refl
-
-      pub reaches : Spotted (w .at + header) limit
-      reaches = (in-room, (within-limit, beyond-limit))
+        pub is-placed :
+            {put : Put} {left : List ℕ}
+            → 4 ≤ cid
+            → ptype ≤ 15
+            → w .at + size + len ≤ length room
+            → put ≡ headerPut (length room - w .at) (w .at) cid ptype last
+            → left ≡ leftBy put room (w .at) (shortestHeader cid ptype last (len % 256))
+            → Enters (Place (w .at + size) (record { at = w .at + size + len; count = w .count + 1; done = last })) left
+        is-placed {put} {left} free four-bits inside answered leaves =
+            let room-left : headerSize cid ptype last ≤ length room - w .at = omega arith in
+            let there : left ≡ written room (w .at) (shortestHeader cid ptype last len) =
+            leaves
+            ∙ ap (λ (p : Put). leftBy p room (w .at) (shortestHeader cid ptype last (len % 256)))
+            (answered ∙ sym (header.taken (length room - w .at) (w .at) cid ptype last free four-bits room-left))
+            ∙ ap (written room (w .at)) (octet-of cid ptype last len short)
+            in
+            (
+              by-place (has-place (length room) w last cid ptype len short sized fits inside),
+              (
+                λ start next e.
+                    let same = same-place _ _ _ _ e in
+                    let ends : w .at + size + len ≡ next .at = ap (λ (v : Writer). v .at) (same .1) in
+                    let many : len ≡ next .at - start = omega (arith, same .0) in
+                    there ∙ ap (λ (n : ℕ). written room (w .at) (shortestHeader cid ptype last n)) many,
+                λ number e. never number _ _ (sym e),
+              ),
+            )

@@ -1,21 +1,21 @@
--- What a writer does with a content, by what its sub-channel takes and by the place of its payload; once for the six kinds.
-use Prim.Native.Nat.{ℕ, _+_, _-_, _<_, _≤_}
-use mathlib.Core.Path.{_≡_, refl, sym, ap, ap₂, subst, _∙_}
-use mathlib.Core.List.{List, _++_}
+-- What a writer does with a content: by what its sub-channel takes, how it fits, and the place of its payload. Once for the six
+-- kinds of content.
+use Prim.Native.Nat.{ℕ, _+_, _-_, _≤_}
+use mathlib.Core.Path.{_≡_, refl, sym, ap, subst, _∙_}
+use mathlib.Core.List.{List, [], _∷_}
 use mathlib.Core.Bool.{Bool, false}
-use mathlib.Core.Logic.{⊎-elim}
 use native.Mathlib.Omega.{arith}
-use lib.ListN.{length, take, drop}
-use lib.Seq.{length-take-le}
-use Rattle.refusal.specs.Numbers.{roomTooSmall}
+use borrow.Author.Tests.{ltb-false}
+use lib.Dec.{ltb}
+use lib.ListN.{length}
+use Rattle.refusal.specs.Numbers.{cidReserved, alreadyLast}
+use Rattle.refusal.specs.Order.{_gives_}
 use Rattle.octets.specs.declared.Fit.{Fit}
 use Rattle.octets.specs.declared.Fit.the-variants.{Octets, Unfit}
 use Rattle.octets.specs.declared.Put.{Put}
-use Rattle.octets.specs.declared.Put.the-variants.{Written, NotWritten}
-use Rattle.octets.specs.Made.{Made, made, unmade, fitOf, putMade, leftMade}
-use Rattle.octets.specs.Room.{put, written, leftBy}
-use Rattle.octets.proofs.Order.{lt-or-le, either}
-use Rattle.octets.proofs.Writes.{too-small, room-for, length-written}
+use Rattle.octets.specs.Made.{Made, made, unmade, fitOf, leftMade}
+use Rattle.octets.specs.Room.{written, leftBy}
+use Rattle.octets.proofs.Writes.{behind, as-long, room-for}
 use Rattle.record.specs.declared.syntax.Record.{Record}
 use Rattle.record.specs.declared.table.Found.{Found}
 use Rattle.record.specs.declared.table.Found.the-variants.{Provisioned, Unprovisioned}
@@ -34,10 +34,9 @@ use Rattle.writer.specs.declared.place.Channel.{Channel}
 use Rattle.writer.specs.declared.place.Channel.the-variants.{Takes, TakesNot}
 use Rattle.writer.specs.declared.place.Entered.{Entered}
 use Rattle.writer.specs.declared.place.Entered.the-variants.{Place, NoPlace}
-use Rattle.writer.specs.Writer.{onChannel, channelFor, placed, entered, Writing, writes, refuses, behind, ofMade, onto, writing, leftWriting}
-use Rattle.writer.specs.Spot.{nextOf, NotPlaced}
-use Rattle.writer.proofs.RoomParts.{part-back, part-written, written-before}
-use Rattle.writer.proofs.PlaceCases.{after-last, reserved, by-record, placed-back}
+use Rattle.writer.specs.Writer.{typedOn, onChannel, channelFor, entered, Writing, writes, refuses, subFrame, taken, onto, writing, leftWriting}
+use Rattle.writer.proofs.Tables.{passed}
+use Rattle.writer.proofs.PlaceCases.{Enters, Placed, placed-back, never}
 
 -- a type that a content is written with is one of 0 to 4
 abbrev atMost : ℕ → TypeFor → Type 0
@@ -78,31 +77,50 @@ pub record Taking (w : Writer) (found : Found) (cid : ℕ) (kind : Kind) (r : Re
   pub provisioned : found ≡ Provisioned r
   pub small : ptype ≤ 4
 
-record-back : (found : Found) (kind : Kind) (t : TypeFor) (r : Record) (ptype : ℕ)
-    → typeFor found kind ≡ t
-    → onChannel t found ≡ Takes r ptype
-    → (typeFor found kind ≡ Typed ptype) × (found ≡ Provisioned r) × (ptype ≤ 4)
-record-back (Provisioned s) kind (Typed p) r ptype is e =
+typed-back : (s : Record) (kind : Kind) (t : TypeFor) (r : Record) (ptype : ℕ)
+    → typeFor (Provisioned s) kind ≡ t
+    → typedOn s t ≡ Takes r ptype
+    → (typeFor (Provisioned s) kind ≡ Typed ptype) × (Provisioned s ≡ Provisioned r) × (ptype ≤ 4)
+typed-back s kind (Typed p) r ptype is e =
     let same = same-channel _ _ _ _ e in
     let small : p ≤ 4 = subst (atMost 4) is (small-type (familyOf (s .syntax)) kind) in
     (is ∙ ap Typed (same .1), ap Provisioned (same .0), rw (← same .1) small)
-record-back Unprovisioned kind (Typed p) r ptype is e = refused-not _ ptype r e
-record-back (Provisioned s) kind (NoType n) r ptype is e = refused-not _ ptype r e
-record-back Unprovisioned kind (NoType n) r ptype is e = refused-not _ ptype r e
+typed-back s kind (NoType n) r ptype is e = refused-not n ptype r e
+
+record-back : (found : Found) (kind : Kind) (r : Record) (ptype : ℕ)
+    → onChannel found kind ≡ Takes r ptype
+    → (typeFor found kind ≡ Typed ptype) × (found ≡ Provisioned r) × (ptype ≤ 4)
+record-back (Provisioned s) kind r ptype e = typed-back s kind (typeFor (Provisioned s) kind) r ptype refl e
+record-back Unprovisioned kind r ptype e = refused-not _ ptype r e
 
 pub taking : (w : Writer) (found : Found) (cid : ℕ) (kind : Kind) (r : Record) (ptype : ℕ)
     → channelFor w found cid kind ≡ Takes r ptype
     → Taking w found cid kind r ptype
+unfolding channelFor
 taking w found cid kind r ptype is =
-    either (λ done. refused-not _ ptype r (after-last w found cid kind done ∙ is))
-    (λ going.
-    ⊎-elim (λ low. refused-not _ ptype r (reserved w found cid kind going low ∙ is))
-    (λ free.
-    let back = record-back found kind (typeFor found kind) r ptype refl (by-record w found cid kind going free ∙ is) in
-    record { going = going; free = free; typed = back .0; provisioned = back .1; small = back .2 })
-    (lt-or-le cid 4))
-    (w .done)
-    refl
+    let pass =
+    passed (w .done gives alreadyLast ∷ ltb cid 4 gives cidReserved ∷ []) TakesNot (onChannel found kind) (Takes r ptype)
+    (λ n. refused-not n ptype r)
+    is
+    in
+    let back = record-back found kind r ptype (pass .1) in
+    record {
+      going = pass .0 .0;
+      free = ltb-false cid 4 (pass .0 .1 .0);
+      typed = back .0;
+      provisioned = back .1;
+      small = back .2;
+    }
+
+-- such a header can be written
+pub allowed : (w : Writer) (found : Found) (cid : ℕ) (kind : Kind) {channel : Channel} {r : Record} {ptype : ℕ}
+    → channel ≡ channelFor w found cid kind
+    → channel ≡ Takes r ptype
+    → (4 ≤ cid) × (ptype ≤ 15)
+allowed w found cid kind {r = r} {ptype = ptype} told takes =
+    let known = taking w found cid kind r ptype (sym told ∙ takes) in
+    let few : ptype ≤ 4 = known .small in
+    (known .free, omega arith)
 
 -- An answer of type B is made of what the writer does. What the lent frame holds then stands beside it.
 module _ {B : Type 0} (answer : Writing → B) (room : List ℕ) (w : Writer) (last : Bool) (found : Found) (cid : ℕ) (content : Content)
@@ -116,154 +134,57 @@ module _ {B : Type 0} (answer : Writing → B) (room : List ℕ) (w : Writer) (l
   answers : (it : Writing) (left : List ℕ) → it ≡ does → left ≡ leftWriting it room (w .at) → Answers it left
   answers it left is holds = (ap answer is, holds ∙ ap (λ (x : Writing). leftWriting x room (w .at)) is)
 
-  pub refused : (number : ℕ) → channel ≡ TakesNot number → Answers (refuses number) room
+  by-channel : (given : Channel) → channel ≡ given → onto given (length room) w last cid content ≡ does
   unfolding writing
-  refused number is = answers _ room (ap (λ (x : Channel). onto x (length room) w last cid content) (sym is ∙ told)) refl
+  by-channel given is = ap (λ (x : Channel). onto x (length room) w last cid content) (sym is ∙ told)
 
-  module _ (r : Record) (ptype : ℕ) (takes : channel ≡ Takes r ptype) where
-    as-made : ofMade (length room) w last cid ptype (madeOn r content) ≡ does
-    unfolding writing
-    as-made = ap (λ (x : Channel). onto x (length room) w last cid content) (sym takes ∙ told)
+  pub refused : {number : ℕ} → channel ≡ TakesNot number → Answers (refuses number) room
+  refused is = answers _ room (by-channel _ is) refl
 
-    -- The payload is put into the part of the room up to a limit: where it does not fit there it is refused.
-    module _ (start limit : ℕ) (in-room : limit ≤ length room)
-        (within : (len : ℕ) → start + len ≤ limit → placed (length room) w last cid ptype len ≡ Place start (nextOf w (start + len) last))
-        (beyond : (len : ℕ) → limit < start + len → NotPlaced (placed (length room) w last cid ptype len))
-        {p : Put} (answered : p ≡ putMade (take limit room) start (madeOn r content))
-        {part : List ℕ} (leaves : part ≡ leftMade (take limit room) start (madeOn r content)) where
-      long : length (take limit room) ≡ limit
-      long = length-take-le limit room in-room
+  module _ {r : Record} {ptype : ℕ} (takes : channel ≡ Takes r ptype) where
+    module _ {fit : Fit} {e : Entered} {left : List ℕ} (fits : fit ≡ fitOf (madeOn r content))
+        (enters : Enters room w last cid ptype fit e left) where
+      abbrev octets : List ℕ
+      octets = subFrame cid ptype last (madeOn r content)
 
-      module _ {fit : Fit} (fits : fit ≡ fitOf (madeOn r content)) (number : ℕ)
-          (says : (other n : ℕ) → entered other w last cid ptype fit ≡ NoPlace n → number ≡ n) where
-        unmade-refused : (n : ℕ)
-            → madeOn r content ≡ unmade n
-            → Answers (refuses number) (part ++ drop limit room)
-        unmade-refused n is =
-            let fit-is : fit ≡ Unfit n = fits ∙ ap fitOf is in
-            let same : number ≡ n = says 0 n (ap (entered 0 w last cid ptype) fit-is) in
-            answers _ _
-            (ap refuses same ∙ sym (ap (ofMade (length room) w last cid ptype) is) ∙ as-made)
-            (ap (λ (l : List ℕ). l ++ drop limit room) (leaves ∙ ap (leftMade (take limit room) start) is) ∙ part-back room limit)
+      as-entered : e ≡ entered (length room) w last cid ptype (fitOf (madeOn r content))
+      as-entered = enters .0 ∙ ap (entered (length room) w last cid ptype) fits
 
-        made-refused : (octets : List ℕ)
-            → madeOn r content ≡ made octets
-            → limit < start + length octets
-            → Answers (refuses number) (part ++ drop limit room)
-        made-refused octets is over =
-            let none = beyond (length octets) over in
-            let fit-is : fit ≡ Octets (length octets) = fits ∙ ap fitOf is in
-            let same : number ≡ none .0 = says (length room) (none .0) (ap (entered (length room) w last cid ptype) fit-is ∙ none .1) in
-            let small = too-small (take limit room) octets start (omega (arith, long, over)) in
-            answers _ _
-            (ap refuses same
-            ∙ ap (λ (e : Entered). behind e (shortestHeader cid ptype last (length octets)) octets) (sym (none .1))
-            ∙ sym (ap (ofMade (length room) w last cid ptype) is)
-            ∙ as-made)
-            (ap (λ (l : List ℕ). l ++ drop limit room)
-            (leaves ∙ ap (leftMade (take limit room) start) is ∙ ap (λ (q : Put). leftBy q (take limit room) start octets) (sym small))
-            ∙ part-back room limit)
+      by-place : (given : Entered) → e ≡ given → taken given octets ≡ does
+      by-place given is = ap (λ (x : Entered). taken x octets) (sym is ∙ as-entered) ∙ by-channel _ takes
 
-        by-made : (m : Made) → madeOn r content ≡ m → (n : ℕ) → p ≡ NotWritten n → Answers (refuses number) (part ++ drop limit room)
-        by-made (unmade k) is n not = unmade-refused k is
-        by-made (made octets) is n not =
-            ⊎-elim (made-refused octets is)
-            (λ enough.
-            let taken = room-for (take limit room) octets start (omega (arith, long, enough)) in
-            let both : NotWritten n ≡ Written (start + length octets) =
-            sym not ∙ answered ∙ ap (putMade (take limit room) start) is ∙ sym taken
-            in
-            let z : _≡_ {A = ℕ} 0 1 = cc in
-            absurd (omega (arith, z)))
-            (lt-or-le limit (start + length octets))
+      pub no-place : {number : ℕ} → e ≡ NoPlace number → Answers (refuses number) left
+      no-place is = answers _ left (by-place _ is) (enters .1 .1 _ is)
 
-        pub not-put : (n : ℕ) → p ≡ NotWritten n → Answers (refuses number) (part ++ drop limit room)
-        not-put = by-made (madeOn r content) refl
+      -- the payload behind its header
+      stands : (m : Made) → madeOn r content ≡ m → (start : ℕ) (next : Writer) (final : List ℕ)
+          → e ≡ Place start next
+          → final ≡ leftMade left start m
+          → final ≡ written room (w .at) (subFrame cid ptype last m)
+      stands m is start next final has = go m (sym (ap (λ (x : Made). entered (length room) w last cid ptype (fitOf x)) is) ∙ sym as-entered ∙ has)
+        where
+          go : (m : Made) → entered (length room) w last cid ptype (fitOf m) ≡ Place start next
+              → final ≡ leftMade left start m
+              → final ≡ written room (w .at) (subFrame cid ptype last m)
+          go (unmade n) there holds = never n start next there
+          go (made payload) there holds =
+              let place = placed-back (length room) w last cid ptype (length payload) start next there in
+              let head = shortestHeader cid ptype last (length payload) in
+              let size : length head ≡ headerSize cid ptype last = header.size-is cid ptype last (length payload) in
+              let begins : start ≡ w .at + length head = place .starts ∙ ap (λ (n : ℕ). w .at + n) (sym size) in
+              let ends : next .at ≡ start + length payload = ap (λ (v : Writer). v .at) (place .goes-on) in
+              let many : next .at - start ≡ length payload = omega arith in
+              let inside : start + length payload ≤ length room = place .inside in
+              let first : left ≡ written room (w .at) head =
+              enters .1 .0 start next has ∙ ap (λ (n : ℕ). written room (w .at) (shortestHeader cid ptype last n)) many
+              in
+              let long : length left ≡ length room = as-long room head left (w .at) (omega arith) first in
+              behind room head payload left final (w .at) start begins inside first
+              (holds ∙ ap (λ (p : Put). leftBy p left start payload) (sym (room-for left payload start (omega arith))))
 
-      -- what is known of a payload that is put
-      record Stands (end : ℕ) : Type 0 where
-        octets : List ℕ
-        is : madeOn r content ≡ made octets
-        ends : end ≡ start + length octets
-        fits : start + length octets ≤ limit
-
-      stands-as : (m : Made) → madeOn r content ≡ m → (end : ℕ) → p ≡ Written end → Stands end
-      stands-as (unmade n) is end put =
-          let both : NotWritten n ≡ Written end = sym (answered ∙ ap (putMade (take limit room) start) is) ∙ put in
-          let z : _≡_ {A = ℕ} 0 1 = cc in
-          absurd (omega (arith, z))
-      stands-as (made octets) is end put =
-          ⊎-elim
-          (λ over.
-          let small = too-small (take limit room) octets start (omega (arith, long, over)) in
-          let both : NotWritten roomTooSmall ≡ Written end = small ∙ sym (answered ∙ ap (putMade (take limit room) start) is) ∙ put in
-          let z : _≡_ {A = ℕ} 0 1 = cc in
-          absurd (omega (arith, z)))
-          (λ enough.
-          let taken = room-for (take limit room) octets start (omega (arith, long, enough)) in
-          let both : Written (start + length octets) ≡ Written end = taken ∙ sym (answered ∙ ap (putMade (take limit room) start) is) ∙ put in
-          let same : start + length octets ≡ end = cc in
-          record { octets = octets; is = is; ends = sym same; fits = enough })
-          (lt-or-le limit (start + length octets))
-
-      module _ (end : ℕ) (put : p ≡ Written end) where
-        stands : Stands end
-        stands = stands-as (madeOn r content) refl end put
-
-        abbrev payload : List ℕ
-        payload = stands .octets
-
-        counted : end - start ≡ length payload
-        counted = let e = stands .ends in omega (arith, e)
-
-        left-as : part ++ drop limit room ≡ written room start payload
-        left-as =
-            let taken = room-for (take limit room) payload start (let f = stands .fits in omega (arith, long, f)) in
-            ap (λ (l : List ℕ). l ++ drop limit room)
-            (leaves ∙ ap (leftMade (take limit room) start) (stands .is) ∙ ap (λ (q : Put). leftBy q (take limit room) start payload) (sym taken))
-            ∙ part-written room payload limit start (stands .fits) in-room
-
-        as-placed : placed (length room) w last cid ptype (end - start) ≡ Place start (nextOf w end last)
-        as-placed =
-            ap (placed (length room) w last cid ptype) counted
-            ∙ within (length payload) (stands .fits)
-            ∙ ap (λ (n : ℕ). Place start (nextOf w n last)) (sym (stands .ends))
-
-        kept : length (part ++ drop limit room) ≡ length room
-        kept = ap length left-as ∙ length-written room payload start (let f = stands .fits in omega (arith, in-room, f))
-
-        -- what the header asks
-        pub asked : (4 ≤ cid)
-            × ((ptype ≤ 15)
-            × ((start ≤ end)
-            × (placed (length (part ++ drop limit room)) w last cid ptype (end - start) ≡ Place start (nextOf w end last))))
-        asked =
-            let known = taking w found cid (kindOf content) r ptype (sym told ∙ takes) in
-            let few : ptype ≤ 4 = known .small in
-            let e = stands .ends in
-            (known .free, (omega (arith, few), (omega (arith, e), ap (λ (n : ℕ). placed n w last cid ptype (end - start)) kept ∙ as-placed)))
-
-        pub wrote :
-            (final : List ℕ)
-            → final ≡ written (part ++ drop limit room) (w .at) (shortestHeader cid ptype last (end - start))
-            → (octets : List ℕ) × Answers (writes octets (nextOf w end last)) final
-        wrote final header-there =
-            let place = placed-back (length room) w last cid ptype (end - start) start (nextOf w end last) as-placed in
-            let head = shortestHeader cid ptype last (length payload) in
-            let size : length head ≡ headerSize cid ptype last = header.size-is cid ptype last (length payload) in
-            let begins : start ≡ w .at + length head = place .starts ∙ ap (λ (n : ℕ). w .at + n) (sym size) in
-            let fit = stands .fits in
-            let inside : w .at + length head + length payload ≤ length room = omega (arith, begins, fit, in-room) in
-            let then : final ≡ written room (w .at) (head ++ payload) =
-            header-there
-            ∙ ap₂ (λ (l : List ℕ) (n : ℕ). written l (w .at) (shortestHeader cid ptype last n)) left-as counted
-            ∙ ap (λ (n : ℕ). written (written room n payload) (w .at) head) begins
-            ∙ written-before room head payload (w .at) inside
-            in
-            let whole : writes (head ++ payload) (nextOf w end last) ≡ does =
-            ap (λ (e : Entered). behind e head payload)
-            (sym (ap (placed (length room) w last cid ptype) (sym counted) ∙ as-placed))
-            ∙ sym (ap (ofMade (length room) w last cid ptype) (stands .is))
-            ∙ as-made
-            in
-            (head ++ payload, answers _ final whole then)
+      pub wrote : {start : ℕ} {next : Writer} {final : List ℕ}
+          → e ≡ Place start next
+          → final ≡ leftMade left start (madeOn r content)
+          → Answers (writes octets next) final
+      wrote {start} {next} {final} has holds =
+          answers _ final (by-place _ has) (stands (madeOn r content) refl start next final has holds)

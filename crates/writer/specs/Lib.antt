@@ -1,4 +1,3 @@
 pub mod Writer
 pub mod Answers
-pub mod Spot
 pub mod Examples

@@ -1,15 +1,17 @@
 -- The writer (document 01, "Refusal numbers"): "The writer takes one sub-frame at a time, each told last or not. Its order: 24,
 -- 4, 11 to 16, 22, 23, 21; 21 exactly when header and payload exceed the room left."
 use Prim.Native.Nat.{ℕ, _+_}
-use mathlib.Core.List.{List, _++_}
+use mathlib.Core.List.{List, [], _∷_, _++_}
 use mathlib.Core.Bool.{Bool, true, false, cond}
 use lib.Dec.{ltb}
 use lib.ListN.{length}
 use Rattle.refusal.specs.Numbers.{cidReserved, notProvisioned, roomTooSmall, tooLongNotLast, frameFull, alreadyLast}
+use Rattle.refusal.specs.Order.{_gives_, inOrder, _or_}
 use Rattle.octets.specs.declared.Fit.{Fit}
 use Rattle.octets.specs.declared.Fit.the-variants.{Octets, Unfit}
-use Rattle.octets.specs.Made.{Made, made, unmade}
+use Rattle.octets.specs.Made.{Made, made, unmade, fitOf}
 use Rattle.octets.specs.Room.{written}
+use Rattle.record.specs.declared.syntax.Record.{Record}
 use Rattle.record.specs.declared.table.Found.{Found}
 use Rattle.record.specs.declared.table.Found.the-variants.{Provisioned, Unprovisioned}
 use Rattle.frame.specs.Opening.{mostOctets, mostSubFrames}
@@ -28,34 +30,50 @@ use Rattle.writer.specs.declared.place.Entered.the-variants.{Place, NoPl
 abbrev pub freshWriter : Writer
 freshWriter = record { at = 0; count = 0; done = false }
 
--- 11 and 12: the record of the sub-channel and the content's type there.
-abbrev pub onChannel : TypeFor → Found → Channel
-onChannel (Typed ptype) (Provisioned r) = Takes r ptype
-onChannel (Typed ptype) Unprovisioned = TakesNot notProvisioned
-onChannel (NoType number) found = TakesNot number
+-- 11 and 12: the sub-channel's record, and the type there of a content of this kind.
+abbrev pub typedOn : Record → TypeFor → Channel
+typedOn r (Typed ptype) = Takes r ptype
+typedOn r (NoType number) = TakesNot number
+
+abbrev pub onChannel : Found → Kind → Channel
+onChannel (Provisioned r) kind = typedOn r (typeFor (Provisioned r) kind)
+onChannel Unprovisioned kind = TakesNot notProvisioned
 
 -- 24, 4, then those
 unfoldable pub channelFor : Writer → Found → ℕ → Kind → Channel
 channelFor w found cid kind =
-    cond (w .done) (TakesNot alreadyLast) (cond (ltb cid 4) (TakesNot cidReserved) (onChannel (typeFor found kind) found))
+    inOrder
+    (w .done gives alreadyLast
+    ∷ ltb cid 4 gives cidReserved
+    ∷ [])
+    TakesNot
+    (onChannel found kind)
 
 -- 22: "over 255 octets and not last".
+abbrev pub mostNotLast : ℕ
+mostNotLast = 255
+
 abbrev pub tooLong : Bool → ℕ → Bool
-tooLong last len = cond last false (ltb 255 len)
+tooLong last len = cond last false (ltb mostNotLast len)
 
 -- 23: "frame would pass 1,600 octets or 64 sub-frames".
 abbrev pub full : Writer → ℕ → Bool
-full w end = cond (ltb mostSubFrames (w .count + 1)) true (ltb mostOctets end)
+full w end = ltb mostSubFrames (w .count + 1) or ltb mostOctets end
 
--- 22, 23, 21, for a payload of len octets: where it begins, behind its header, and the writer after it.
+-- 22, 23, 21, for a payload of len octets: where it begins, behind its header, and the writer after it
 unfoldable pub placed : ℕ → Writer → Bool → ℕ → ℕ → ℕ → Entered
 placed room w last cid ptype len =
     let start = w .at + headerSize cid ptype last in
-    cond (tooLong last len) (NoPlace tooLongNotLast)
-    (cond (full w (start + len)) (NoPlace frameFull)
-    (cond (ltb room (start + len)) (NoPlace roomTooSmall)
-    (Place start (record { at = start + len; count = w .count + 1; done = last }))))
+    let end = start + len in
+    inOrder
+    (tooLong last len gives tooLongNotLast
+    ∷ full w end gives frameFull
+    ∷ ltb room end gives roomTooSmall
+    ∷ [])
+    NoPlace
+    (Place start (record { at = end; count = w .count + 1; done = last }))
 
+-- 13 to 16, by the payload's layout, then those
 abbrev pub entered : ℕ → Writer → Bool → ℕ → ℕ → Fit → Entered
 entered room w last cid ptype (Octets len) = placed room w last cid ptype len
 entered room w last cid ptype (Unfit number) = NoPlace number
@@ -65,17 +83,18 @@ pub data Writing : Type 0 where
   writes : List ℕ → Writer → Writing
   refuses : ℕ → Writing
 
-abbrev pub behind : Entered → List ℕ → List ℕ → Writing
-behind (Place start next) header payload = writes (header ++ payload) next
-behind (NoPlace number) header payload = refuses number
+-- a sub-frame's octets: the header, and the payload that is made
+abbrev pub subFrame : ℕ → ℕ → Bool → Made → List ℕ
+subFrame cid ptype last (made payload) = shortestHeader cid ptype last (length payload) ++ payload
+subFrame cid ptype last (unmade number) = []
 
-abbrev pub ofMade : ℕ → Writer → Bool → ℕ → ℕ → Made → Writing
-ofMade room w last cid ptype (made octets) =
-    behind (placed room w last cid ptype (length octets)) (shortestHeader cid ptype last (length octets)) octets
-ofMade room w last cid ptype (unmade number) = refuses number
+abbrev pub taken : Entered → List ℕ → Writing
+taken (Place start next) octets = writes octets next
+taken (NoPlace number) octets = refuses number
 
 abbrev pub onto : Channel → ℕ → Writer → Bool → ℕ → Content → Writing
-onto (Takes r ptype) room w last cid content = ofMade room w last cid ptype (madeOn r content)
+onto (Takes r ptype) room w last cid content =
+    taken (entered room w last cid ptype (fitOf (madeOn r content))) (subFrame cid ptype last (madeOn r content))
 onto (TakesNot number) room w last cid content = refuses number
 
 -- A content for a sub-channel of this CID, with what is provisioned there, in a lent frame of `room` octets.

@@ -1,9 +1,9 @@
 // Voice and data sub-frames, written (document 01, "Refusal numbers" and "Payload types").
 use crate::place::Channel;
+use crate::place::Entered;
 use crate::place::Writer;
 use counts::DataCount;
 use counts::VoiceCount;
-use octets::Put;
 use payload::layout::Kind;
 ghost use mathlib.Core.Path.{_≡_};
 ghost use lib.ListN.{length};
@@ -37,23 +37,13 @@ pub fn write_voice(
     match crate::place::channel_for(writer, table, cid, Kind::AVoice) {
         Channel::TakesNot(number) => Primary::PrimaryRefused(number),
         Channel::Takes { rec, ptype } => {
-            let spot = crate::place::spot_for(frame.len(), writer, last, cid, ptype);
-            let start = spot.start;
-            let limit = spot.limit;
-            match voice::voice::put_voice(&mut frame[..limit], start, rec, sequence, coding, body) {
-                Put::NotWritten(_) => {
-                    let fit = voice::voice::fit_voice(rec, sequence, coding, body);
-                    Primary::PrimaryRefused(crate::place::refusal_of(writer, last, cid, ptype, fit))
+            let fit = voice::voice::fit_voice(rec, sequence, coding, body);
+            match crate::place::enter(frame, writer, last, cid, ptype, fit) {
+                Entered::NoPlace(number) => Primary::PrimaryRefused(number),
+                Entered::Place { start, next } => {
+                    voice::voice::put_voice(frame, start, rec, sequence, coding, body);
+                    Primary::PrimaryTaken(next)
                 }
-                Put::Written(end) => Primary::PrimaryTaken(crate::place::lead(
-                    frame,
-                    writer,
-                    last,
-                    cid,
-                    ptype,
-                    start,
-                    end,
-                )),
             }
         }
     }
@@ -77,23 +67,13 @@ pub fn write_data(
     match crate::place::channel_for(writer, table, cid, Kind::AData) {
         Channel::TakesNot(number) => Primary::PrimaryRefused(number),
         Channel::Takes { ptype, .. } => {
-            let spot = crate::place::spot_for(frame.len(), writer, last, cid, ptype);
-            let start = spot.start;
-            let limit = spot.limit;
-            match data::put_data(&mut frame[..limit], start, begins, ends, sequence, body) {
-                Put::NotWritten(_) => {
-                    let fit = data::fit_data(sequence, body);
-                    Primary::PrimaryRefused(crate::place::refusal_of(writer, last, cid, ptype, fit))
+            let fit = data::fit_data(sequence, body);
+            match crate::place::enter(frame, writer, last, cid, ptype, fit) {
+                Entered::NoPlace(number) => Primary::PrimaryRefused(number),
+                Entered::Place { start, next } => {
+                    data::put_data(frame, start, begins, ends, sequence, body);
+                    Primary::PrimaryTaken(next)
                 }
-                Put::Written(end) => Primary::PrimaryTaken(crate::place::lead(
-                    frame,
-                    writer,
-                    last,
-                    cid,
-                    ptype,
-                    start,
-                    end,
-                )),
             }
         }
     }

@@ -1,10 +1,10 @@
 // Sub-frames of digits, signalling, fax and silence, written (document 01, "Refusal numbers" and "Payload types").
 use crate::place::Channel;
+use crate::place::Entered;
 use crate::place::Writer;
 use digits::layout::Digits;
 use fax::Command;
 use fax::Stamp;
-use octets::Put;
 use payload::layout::Kind;
 use signalling::layout::Signalling;
 use voice::sid::Sid;
@@ -38,29 +38,13 @@ pub fn write_digits(
     match crate::place::channel_for(writer, table, cid, Kind::ADigits) {
         Channel::TakesNot(number) => Signalled::SignalledRefused(number),
         Channel::Takes { ptype, .. } => {
-            let spot = crate::place::spot_for(frame.len(), writer, last, cid, ptype);
-            let start = spot.start;
-            let limit = spot.limit;
-            match digits::layout::put_digits(&mut frame[..limit], start, digits) {
-                Put::NotWritten(_) => {
-                    let fit = digits::layout::fit_digits(digits);
-                    Signalled::SignalledRefused(crate::place::refusal_of(
-                        writer,
-                        last,
-                        cid,
-                        ptype,
-                        fit,
-                    ))
+            let fit = digits::layout::fit_digits(digits);
+            match crate::place::enter(frame, writer, last, cid, ptype, fit) {
+                Entered::NoPlace(number) => Signalled::SignalledRefused(number),
+                Entered::Place { start, next } => {
+                    digits::layout::put_digits(frame, start, digits);
+                    Signalled::SignalledTaken(next)
                 }
-                Put::Written(end) => Signalled::SignalledTaken(crate::place::lead(
-                    frame,
-                    writer,
-                    last,
-                    cid,
-                    ptype,
-                    start,
-                    end,
-                )),
             }
         }
     }
@@ -81,29 +65,13 @@ pub fn write_signalling(
     match crate::place::channel_for(writer, table, cid, Kind::ASignalling) {
         Channel::TakesNot(number) => Signalled::SignalledRefused(number),
         Channel::Takes { ptype, .. } => {
-            let spot = crate::place::spot_for(frame.len(), writer, last, cid, ptype);
-            let start = spot.start;
-            let limit = spot.limit;
-            match signalling::layout::put_signalling(&mut frame[..limit], start, signalling) {
-                Put::NotWritten(_) => {
-                    let fit = signalling::layout::fit_signalling(signalling);
-                    Signalled::SignalledRefused(crate::place::refusal_of(
-                        writer,
-                        last,
-                        cid,
-                        ptype,
-                        fit,
-                    ))
+            let fit = signalling::layout::fit_signalling(signalling);
+            match crate::place::enter(frame, writer, last, cid, ptype, fit) {
+                Entered::NoPlace(number) => Signalled::SignalledRefused(number),
+                Entered::Place { start, next } => {
+                    signalling::layout::put_signalling(frame, start, signalling);
+                    Signalled::SignalledTaken(next)
                 }
-                Put::Written(end) => Signalled::SignalledTaken(crate::place::lead(
-                    frame,
-                    writer,
-                    last,
-                    cid,
-                    ptype,
-                    start,
-                    end,
-                )),
             }
         }
     }
@@ -127,29 +95,13 @@ pub fn write_fax(
     match crate::place::channel_for(writer, table, cid, Kind::AFax) {
         Channel::TakesNot(number) => Signalled::SignalledRefused(number),
         Channel::Takes { ptype, .. } => {
-            let spot = crate::place::spot_for(frame.len(), writer, last, cid, ptype);
-            let start = spot.start;
-            let limit = spot.limit;
-            match fax::put_fax(&mut frame[..limit], start, sequence, stamp, command, body) {
-                Put::NotWritten(_) => {
-                    let fit = fax::fit_fax(sequence, stamp, command, body);
-                    Signalled::SignalledRefused(crate::place::refusal_of(
-                        writer,
-                        last,
-                        cid,
-                        ptype,
-                        fit,
-                    ))
+            let fit = fax::fit_fax(sequence, stamp, command, body);
+            match crate::place::enter(frame, writer, last, cid, ptype, fit) {
+                Entered::NoPlace(number) => Signalled::SignalledRefused(number),
+                Entered::Place { start, next } => {
+                    fax::put_fax(frame, start, sequence, stamp, command, body);
+                    Signalled::SignalledTaken(next)
                 }
-                Put::Written(end) => Signalled::SignalledTaken(crate::place::lead(
-                    frame,
-                    writer,
-                    last,
-                    cid,
-                    ptype,
-                    start,
-                    end,
-                )),
             }
         }
     }
@@ -171,29 +123,13 @@ pub fn write_sid(
         Channel::TakesNot(number) => Signalled::SignalledRefused(number),
         Channel::Takes { rec, ptype } => {
             let syntax = rec.syntax;
-            let spot = crate::place::spot_for(frame.len(), writer, last, cid, ptype);
-            let start = spot.start;
-            let limit = spot.limit;
-            match voice::sid::put_sid(&mut frame[..limit], start, syntax, sid) {
-                Put::NotWritten(_) => {
-                    let fit = voice::sid::fit_sid(syntax, sid);
-                    Signalled::SignalledRefused(crate::place::refusal_of(
-                        writer,
-                        last,
-                        cid,
-                        ptype,
-                        fit,
-                    ))
+            let fit = voice::sid::fit_sid(syntax, sid);
+            match crate::place::enter(frame, writer, last, cid, ptype, fit) {
+                Entered::NoPlace(number) => Signalled::SignalledRefused(number),
+                Entered::Place { start, next } => {
+                    voice::sid::put_sid(frame, start, syntax, sid);
+                    Signalled::SignalledTaken(next)
                 }
-                Put::Written(end) => Signalled::SignalledTaken(crate::place::lead(
-                    frame,
-                    writer,
-                    last,
-                    cid,
-                    ptype,
-                    start,
-                    end,
-                )),
             }
         }
     }
