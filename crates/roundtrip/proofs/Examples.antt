@@ -22,10 +22,10 @@ use Rattle.octets.proofs.Order.{clash}
 use Rattle.payload.specs.Claims.{samplesIn}
 use Rattle.roundtrip.proofs.Taken.{made-is-taken}
 
-abbrev content : ℕ → ℕ → List ℕ → joining.Content
+abbrev content : ℕ → ℕ → List ℕ → joining.Member
 content cid ptype payload = record { cid = cid; ptype = ptype; payload = payload }
 
-abbrev every-content : List joining.Content
+abbrev every-content : List joining.Member
 every-content =
     content 5 0 (replicate 10 170)
     ∷ content 5 1 (7 ∷ 0 ∷ 34 ∷ 5 ∷ 0 ∷ 0 ∷ 0 ∷ 0 ∷ [])
@@ -88,13 +88,13 @@ every-kind-legal = (
 )
 
 -- 63 spoken sub-frames and a data one
-abbrev last-content : joining.Content
+abbrev last-content : joining.Member
 last-content = content 6 0 (192 ∷ 0 ∷ replicate 841 0)
 
-abbrev full-content : List joining.Content
+abbrev full-content : List joining.Member
 full-content = replicate 63 (content 5 0 (replicate 10 170)) ++ last-content ∷ []
 
-many-made : (n : ℕ) (ss : List Sub) (cs : List joining.Content)
+many-made : (n : ℕ) (ss : List Sub) (cs : List joining.Member)
     → AllMade table ss cs
     → AllMade table (replicate n spoken ++ ss) (replicate n (content 5 0 (replicate 10 170)) ++ cs)
 unfolding foundAt meaning packed syntaxAt voiceMade bodyOctets blockOctets frontOf
@@ -109,7 +109,7 @@ many-stated : (n : ℕ) (ss : List Sub) → AllStated ss → AllStated (replicat
 many-stated zero ss all = all
 many-stated (suc n) ss all = (stated-here spoken (omega arith) refl, many-stated n ss all)
 
-many-carriable : (n : ℕ) (cs : List joining.Content) → Each cs → Each (replicate n (content 5 0 (replicate 10 170)) ++ cs)
+many-carriable : (n : ℕ) (cs : List joining.Member) → Each cs → Each (replicate n (content 5 0 (replicate 10 170)) ++ cs)
 many-carriable zero cs each = each
 many-carriable (suc n) cs each = (record { free = omega arith; small = omega arith; four-bits = omega arith; short = λ more. omega arith }, many-carriable n cs each)
 

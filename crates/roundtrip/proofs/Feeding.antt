@@ -28,7 +28,7 @@ pub record Standing (w : Writer) (frame : List ℕ) : Type 0 where
 
 -- a list taken whole
 pub record Run (table frame : List ℕ) (ss : List Sub) (w to : Writer) (left : List ℕ) : Type 0 where
-  pub contents : List joining.Content
+  pub contents : List joining.Member
   pub each-made : AllMade table ss contents
   pub each : Each contents
   pub holds : left ≡ written frame (w .at) (joined contents)
@@ -43,7 +43,7 @@ never n here w to frame left e = let z : _≡_ {A = ℕ} 0 1 = cc in absurd (ome
 pub same-took : (v w : Writer) (a b : List ℕ) → took v a ≡ took w b → (v ≡ w) × (a ≡ b)
 same-took v w a b e = (cc, cc)
 
-pub last-alike : (table : List ℕ) (ss : List Sub) (cs : List joining.Content) → AllMade table ss cs → isLast ss ≡ isNone cs
+pub last-alike : (table : List ℕ) (ss : List Sub) (cs : List joining.Member) → AllMade table ss cs → isLast ss ≡ isNone cs
 last-alike table [] [] all = refl
 last-alike table [] (c ∷ cs) all = absurd all
 last-alike table (s ∷ ss) [] all = absurd all
@@ -79,7 +79,7 @@ module _ (table frame : List ℕ) (w : Writer) (s : Sub) (ss : List Sub) (octets
   got : Took (length frame) w (isLast ss) (foundAt table (s .cid)) (s .cid) (s .content) octets next
   got = took-back (length frame) w (isLast ss) (foundAt table (s .cid)) (s .cid) (s .content) octets next does
 
-  content : joining.Content
+  content : joining.Member
   content = record { cid = s .cid; ptype = got .ptype; payload = got .payload }
 
   pub size : w .at + length octets ≡ next .at
@@ -115,7 +115,7 @@ module _ (table frame : List ℕ) (w : Writer) (s : Sub) (ss : List Sub) (octets
   short : isLast ss ≡ false → length (got .payload) ≤ 255
   short more = ltb-false 255 (length (got .payload)) (sym (ap (λ (l : Bool). tooLong l (length (got .payload))) more) ∙ got .place .short)
 
-  whole-of : (cs : List joining.Content)
+  whole-of : (cs : List joining.Member)
       → octets ≡ shortestHeader (s .cid) (got .ptype) (isNone cs) (length (got .payload)) ++ got .payload
       → octets ++ joined cs ≡ joined (content ∷ cs)
   unfolding joined content

@@ -27,10 +27,10 @@ map-map f g [] = refl
 map-map f g (a ∷ l) = ap (λ t. f (g a) ∷ t) (map-map f g l)
 
 -- what is read of a content, by the record of its sub-channel
-abbrev got : List ℕ → joining.Content → Got
+abbrev got : List ℕ → joining.Member → Got
 got table c = record { cid = c .cid; reading = payloadRead (foundAt table (c .cid)) (c .ptype) (c .payload) }
 
-got-back : (table : List ℕ) (ss : List Sub) (cs : List joining.Content) → AllStated ss → AllMade table ss cs → map (got table) cs ≡ map sameAs ss
+got-back : (table : List ℕ) (ss : List Sub) (cs : List joining.Member) → AllStated ss → AllMade table ss cs → map (got table) cs ≡ map sameAs ss
 got-back table [] [] stated all = refl
 got-back table [] (c ∷ cs) stated all = absurd all
 got-back table (s ∷ ss) [] stated all = absurd all
@@ -49,7 +49,7 @@ unfolding fed
 some table frame [] w left legal = clash (w .done) (legal .to-last) (ap (λ (v : Writer). v .done) (sym (same-took freshWriter w frame left (legal .taken) .0)))
 some table frame (s ∷ ss) w left legal = refl
 
-some-made : (table : List ℕ) (ss : List Sub) (cs : List joining.Content) → false ≡ isLast ss → AllMade table ss cs → 1 ≤ length cs
+some-made : (table : List ℕ) (ss : List Sub) (cs : List joining.Member) → false ≡ isLast ss → AllMade table ss cs → 1 ≤ length cs
 some-made table [] cs more all = clash false more refl
 some-made table (s ∷ ss) [] more all = absurd all
 some-made table (s ∷ ss) (c ∷ cs) more all = omega arith

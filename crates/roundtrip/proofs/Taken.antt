@@ -21,15 +21,15 @@ use Rattle.roundtrip.specs.Demand2.{Sub, isLast, took, after, onwards, f
 use Rattle.roundtrip.proofs.Feeding.{last-alike, none-written}
 
 -- the writer after these, from where it stood
-abbrev beyond : Writer → List joining.Content → Writer
+abbrev beyond : Writer → List joining.Member → Writer
 beyond w cs = record { at = w .at + length (joined cs); count = w .count + length cs; done = true }
 
-short : (c : joining.Content) (last : Bool) → Carriable c last → tooLong last (length (c .payload)) ≡ false
+short : (c : joining.Member) (last : Bool) → Carriable c last → tooLong last (length (c .payload)) ≡ false
 short c true fits = refl
 short c false fits = le-ltb 255 (length (c .payload)) (fits .short refl)
 
 -- the first sub-frame is written as its header and its payload
-module _ (table frame : List ℕ) (w : Writer) (s : Sub) (ss : List Sub) (c : joining.Content) (cs : List joining.Content)
+module _ (table frame : List ℕ) (w : Writer) (s : Sub) (ss : List Sub) (c : joining.Member) (cs : List joining.Member)
     (all : AllMade table (s ∷ ss) (c ∷ cs)) (each : Each (c ∷ cs)) (going : w .done ≡ false) (few : w .count + length (c ∷ cs) ≤ 64)
     (within : w .at + length (joined (c ∷ cs)) ≤ 1600) (inside : w .at + length (joined (c ∷ cs)) ≤ length frame) where
   octets : List ℕ
@@ -112,7 +112,7 @@ module _ (table frame : List ℕ) (w : Writer) (s : Sub) (ss : List Sub) (c : jo
       let sum : length (joined (c ∷ cs)) ≡ length octets + length (joined cs) = whole in
       written-twice frame octets (joined cs) (w .at) (omega arith)
 
-made-taken : (table : List ℕ) (ss : List Sub) (cs : List joining.Content) (frame : List ℕ) (w : Writer)
+made-taken : (table : List ℕ) (ss : List Sub) (cs : List joining.Member) (frame : List ℕ) (w : Writer)
     → AllMade table ss cs
     → Each cs
     → w .done ≡ isNone cs
@@ -144,7 +144,7 @@ made-taken table (s ∷ ss) (c ∷ cs) frame w all each done few within inside =
     ∙ ap₂ took (arrives table frame w s ss c cs all each done few within inside)
     (behind table frame w s ss c cs all each done few within inside)
 
-none-done : (cs : List joining.Content) → 1 ≤ length cs → false ≡ isNone cs
+none-done : (cs : List joining.Member) → 1 ≤ length cs → false ≡ isNone cs
 none-done [] some = absurd (omega arith)
 none-done (c ∷ cs) some = refl
 

@@ -119,24 +119,24 @@ WrittenReadsBack =
 
 -- Which lists are legal: exactly those of which each content is made on its sub-channel, where the sub-frames fit a frame and the
 -- lent room. They are then written as joined.
-abbrev pub MadeAs : List ℕ → Sub → joining.Content → Type 0
+abbrev pub MadeAs : List ℕ → Sub → joining.Member → Type 0
 MadeAs table s c =
     (c .cid ≡ s .cid)
     × (typeFor (foundAt table (s .cid)) (kindOf (s .content)) ≡ Typed (c .ptype))
     × (payloadMade (foundAt table (s .cid)) (s .content) ≡ made (c .payload))
 
-abbrev pub AllMade : List ℕ → List Sub → List joining.Content → Type 0
+abbrev pub AllMade : List ℕ → List Sub → List joining.Member → Type 0
 AllMade table [] [] = Unit
 AllMade table [] (c ∷ cs) = ⊥
 AllMade table (s ∷ ss) [] = ⊥
 AllMade table (s ∷ ss) (c ∷ cs) = MadeAs table s c × AllMade table ss cs
 
-abbrev pub end : List joining.Content → Writer
+abbrev pub end : List joining.Member → Writer
 end cs = record { at = length (joined cs); count = length cs; done = true }
 
 abbrev pub MadeIsTaken : Type 0
 MadeIsTaken =
-    (table frame : List ℕ) (ss : List Sub) (cs : List joining.Content)
+    (table frame : List ℕ) (ss : List Sub) (cs : List joining.Member)
     → AllMade table ss cs
     → Fits cs
     → length (joined cs) ≤ length frame
@@ -146,7 +146,7 @@ abbrev pub LegalIsMade : Type 0
 LegalIsMade =
     (table frame : List ℕ) (ss : List Sub) (w : Writer) (left : List ℕ)
     → Legal table frame ss w left
-    → (cs : List joining.Content)
+    → (cs : List joining.Member)
     × AllMade table ss cs
     × Fits cs
     × (length (joined cs) ≤ length frame)
