@@ -1,7 +1,9 @@
 -- One answer only: the public functions of `fax`.
-use mathlib.Core.Path.{refl, sym, _∙_}
+use mathlib.Core.Path.{_≡_, refl, sym, ap, ap₂, _∙_}
+use Prim.Native.Nat.{ℕ}
+use mathlib.Core.List.{List}
 use denote.Ref.{now}
-use Rattle.settled.specs.Settled.{OneAnswer, nothing}
+use Rattle.settled.specs.Settled.{OneAnswer, nothing, OnePart}
 use Rattle.fax.proofs.read_fax.Kinds as read-fax-kinds
 use Rattle.fax.proofs.read_fax.Reads as read-fax-reads
 use Rattle.fax.proofs.fit_fax.Kinds as fit-fax-kinds
@@ -17,3 +19,4 @@ fit-fax κs a x y s t p q = (p ∙ sym q, refl)
 
 pub put-fax : OneAnswer 2 put-fax-kinds.ps put-fax-kinds.r (λ κs s. now (s .0)) put-fax-reads.Post
 put-fax κs a x y s t p q = (p .0 ∙ sym (q .0), cc)
+

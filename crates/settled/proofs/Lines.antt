@@ -1,9 +1,9 @@
 -- One answer only: the public functions of `lines`.
-use mathlib.Core.Path.{refl, sym, ap₂, _∙_}
+use mathlib.Core.Path.{_≡_, refl, sym, ap, ap₂, _∙_}
 use Prim.Native.Nat.{ℕ}
 use mathlib.Core.List.{List}
 use denote.Ref.{now}
-use Rattle.settled.specs.Settled.{OneAnswer, nothing}
+use Rattle.settled.specs.Settled.{OneAnswer, nothing, OnePart}
 use Rattle.lines.proofs.line.starts_frame.Kinds as line-starts-frame-kinds
 use Rattle.lines.proofs.line.starts_frame.Reads as line-starts-frame-reads
 use Rattle.lines.proofs.listing.list_line.Kinds as listing-list-line-kinds
@@ -54,3 +54,4 @@ stream-list-piece κs a x y s t p q = (p .0 ∙ sym (q .0), ap₂ (λ b c. (b, c
 
 pub stream-list-last : OneAnswer 3 stream-list-last-kinds.ps stream-list-last-kinds.r (λ κs s. now (s .1 .1 .1 .0)) stream-list-last-reads.Post
 stream-list-last κs a x y s t p q = (p .0 ∙ sym (q .0), cc)
+

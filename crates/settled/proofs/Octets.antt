@@ -1,7 +1,9 @@
 -- One answer only: the public functions of `octets`.
-use mathlib.Core.Path.{refl, sym, _∙_}
+use mathlib.Core.Path.{_≡_, refl, sym, ap, ap₂, _∙_}
+use Prim.Native.Nat.{ℕ}
+use mathlib.Core.List.{List}
 use denote.Ref.{now}
-use Rattle.settled.specs.Settled.{OneAnswer, nothing}
+use Rattle.settled.specs.Settled.{OneAnswer, nothing, OnePart}
 use Rattle.octets.proofs.wide.Kinds as wide-kinds
 use Rattle.octets.proofs.wide.Reads as wide-reads
 use Rattle.octets.proofs.double.Kinds as double-kinds
@@ -52,3 +54,4 @@ text-starts κs a x y s t p q = (p ∙ sym q, refl)
 
 pub text-has-lf : OneAnswer 1 text-has-lf-kinds.ps text-has-lf-kinds.r nothing text-has-lf-reads.Post
 text-has-lf κs a x y s t p q = (p ∙ sym q, refl)
+
