@@ -9,7 +9,7 @@ use Rattle.record.specs.declared.syntax.Syntax.the-variants.{Acelp, Pcm, Data, 
 use Rattle.record.specs.Record.{syntaxAt, packed, meaning, foundAt}
 use Rattle.frame.specs.Header.{told, headerAt}
 use Rattle.frame.specs.Opening.{scan, scanned, opening}
-use Rattle.voice.specs.Voice.{blockOctets, bodyOctets, frontOf, judged, voiceRead}
+use Rattle.voice.specs.Voice.{blockOctets, bodyOctets, frontOf, voiceRead}
 use Rattle.payload.specs.Layout.{onVoice, onFax, onData}
 use Rattle.card.specs.declared.handing.Handed.{Handed}
 use Rattle.card.specs.declared.handing.Handed.the-variants.{FromFrame, FromSilence, NotHanded}
@@ -84,7 +84,7 @@ examples =
     ∷ []
 
 pub tells : map (λ e. handed (e .frame) table (e .cid)) examples ≡ map (λ e. e .tells) examples
-unfolding examples example speech table provisioned handed afterOpening firstOf serves opening scanned scan headerAt told foundAt meaning packed syntaxAt onVoice onFax onData voiceRead judged frontOf bodyOctets blockOctets
+unfolding examples example speech table provisioned handed afterOpening firstOf serves opening scanned scan headerAt told foundAt meaning packed syntaxAt onVoice onFax onData voiceRead frontOf bodyOctets blockOctets
 tells = refl
 
 -- octets, place and source of a payload, of silence and of a refusal, with the frame at octet 100 of block 1 and silence at 0 of block 2

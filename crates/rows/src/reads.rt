@@ -2,13 +2,11 @@
 use crate::fold::fold;
 use crate::fold::level;
 use crate::fold::octet;
-use card::handing::Handed;
 use data::DataRead;
 use digits::layout::DigitsRead;
 use fax::Command;
 use fax::FaxRead;
 use fax::Stamp;
-use frame::header::Header;
 use frame::header::SubFrame;
 use payload::layout::Layout;
 use record::syntax::Record;
@@ -16,6 +14,9 @@ use record::syntax::Syntax;
 use voice::sid::Sid;
 use voice::sid::SidRead;
 use voice::voice::VoiceRead;
+ghost use Prim.Native.Nat.{_≤_};
+ghost use lib.ListN.{length};
+ghost use Rattle.frame.specs.Opening.{endOf};
 
 const CARD: u8 = 5;
 
@@ -26,14 +27,9 @@ fn check(acc: u64, frame: &[u8]) -> u64 {
 
 // What the voice card is handed: the source, the octets, the first of them.
 fn hand(acc: u64, frame: &[u8], silence: &[u8], table: &[u16; 256]) -> u64 {
-    match card::handing::find(frame, table, CARD) {
-        Handed::FromFrame { start, len } => handed(
-            octet(acc, 0),
-            crate::items::part(frame, start, len),
-        ),
-        Handed::FromSilence => handed(octet(acc, 255), silence),
-        Handed::NotHanded(number) => handed(octet(acc, number), &frame[..0]),
-    }
+    let mut source: u8 = 0;
+    let octets = card::handing::hand(frame, silence, table, CARD, &mut source);
+    handed(octet(acc, source), octets)
 }
 
 fn handed(acc: u64, octets: &[u8]) -> u64 {
@@ -44,33 +40,28 @@ fn handed(acc: u64, octets: &[u8]) -> u64 {
 fn read(acc: u64, frame: &[u8], table: &[u16; 256]) -> u64 {
     let checked = frame::opening::check(frame);
     let number = checked.number;
-    if number != 0 {
+    if number != refusal::SOUND {
         return fold(octet(acc, number), checked.at as u64);
     }
     let mut folded = acc;
     let mut at: usize = 0;
     let mut left = checked.count;
     while 0 < left {
+        let sub = frame::header::sub_at(frame, at);
+        folded = read_sub(folded, frame, table, sub);
+        at = sub.start + sub.len;
         left -= 1;
-        match frame::header::header_at(frame, at) {
-            Header::Sub(sub) => {
-                folded = read_sub(folded, frame, table, sub);
-                at = sub.start + sub.len;
-            }
-            Header::Bad(number) => {
-                return octet(folded, number);
-            }
-            Header::Past => {
-                return folded;
-            }
-        }
     }
     folded
 }
 
-fn read_sub(acc: u64, frame: &[u8], table: &[u16; 256], sub: SubFrame) -> u64 {
+fn read_sub(acc: u64, frame: &[u8], table: &[u16; 256], sub: SubFrame) -> u64
+    requires { ⌜ endOf sub ≤ length (now frame) ⌝ }
+{
     let found = record::table::record_of(table, sub.cid);
-    let payload = crate::items::part(frame, sub.start, sub.len);
+    let start = sub.start;
+    let end = start + sub.len;
+    let payload = &frame[start..end];
     let at = octet(octet(acc, sub.cid), sub.ptype);
     match payload::layout::layout_of(found, sub.ptype) {
         Layout::OfVoice(rec) => read_voice(at, rec, payload),
@@ -103,7 +94,7 @@ fn read_digits(acc: u64, payload: &[u8]) -> u64 {
 
 fn read_signalling(acc: u64, payload: &[u8]) -> u64 {
     let told = signalling::layout::read_signalling(payload);
-    if told.number != 0 {
+    if told.number != refusal::SOUND {
         return octet(acc, told.number);
     }
     let signalling = told.signalling;
