@@ -9,8 +9,8 @@ mod contents;
 mod draws;
 mod list;
 mod print;
-mod provisioning;
 mod reads;
+mod records;
 mod writes;
 
 const LISTS: u64 = 200;
@@ -20,7 +20,7 @@ const FIRST_SEED: u64 = 12;
 
 fn main() {
     let mut table = [0u16; 256];
-    provisioning::provision(&mut table);
+    records::provision(&mut table);
     let mut seed = FIRST_SEED;
     let mut number: u64 = 0;
     while number < LISTS {

@@ -5,13 +5,10 @@ use Rattle.lists.proofs.reads.first_differing.Statement.{statement}
 use Rattle.lists.proofs.reads.first_differing.Tie as tie
 
 abbrev Inv-loop : tie.InvT-loop
-Inv-loop frame table opened shape most seed₀ at₀ i₀ seed at i = i ≤ most
+Inv-loop frame table shape most seed₀ at₀ i₀ seed at i = i ≤ most
 
 abbrev μ-loop : tie.MeasureT-loop
-μ-loop frame table opened shape most seed₀ at₀ i₀ seed at i = most - i
-
-open-requires : tie.Need-open-requires Inv-loop μ-loop
-open-requires c κs = search needs
+μ-loop frame table shape most seed₀ at₀ i₀ seed at i = most - i
 
 loop-holds : tie.Need-loop-holds Inv-loop μ-loop
 loop-holds c = search needs
@@ -58,7 +55,6 @@ first-differing-spec =
     (tie.spec
     Inv-loop
     μ-loop
-    open-requires
     loop-holds
     sub-at-requires
     sub-given-at
