@@ -1,1 +1,16 @@
-pub mod Bounds
+pub mod Spelling
+pub mod Keeping
+pub mod Appending
+pub mod HexTable
+pub mod Decoding
+pub mod LineCases
+pub mod Ordinary
+pub mod Ends
+pub mod Inside
+pub mod Listings
+pub mod SubsTurns
+pub mod StreamTurns
+pub mod Digits
+pub mod LineStart
+pub mod TextStart
+pub mod Examples
