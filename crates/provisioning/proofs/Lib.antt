@@ -1,7 +1,6 @@
 pub mod Values
 pub mod Numbers
 pub mod Lines
-pub mod Blocks
 pub mod Steps
 pub mod Turns
 pub mod TextBack

@@ -8,8 +8,8 @@ use borrow.Author.Tests.{lt-ltb, le-ltb}
 use lib.ListN.{length, getD, drop, List·getD-eq-default}
 use lib.Seq.{drop-cons}
 use Rattle.octets.proofs.Order.{lt-or-le, eq-or-ne}
-use Rattle.provisioning.specs.declared.value.Number.{Number}
-use Rattle.provisioning.specs.declared.value.Number.the-variants.{Whole, Malformed}
+use Rattle.provisioning.specs.declared.value.Value.{Value}
+use Rattle.provisioning.specs.declared.value.Value.the-variants.{Whole, Malformed}
 use Rattle.provisioning.specs.Value.{digitOf, numberOf}
 use Rattle.provisioning.specs.Back.{decimal}
 use Rattle.provisioning.proofs.Values as values
@@ -158,13 +158,13 @@ decided s =
     (eq-or-ne q 10))
     (lt-or-le 9 (digitOf p))
 
-never : {A : Type 0} (n : Number) (value size : ℕ) → Malformed ≡ n → n ≡ Whole value size → A
+never : {A : Type 0} (n : Value) (value size : ℕ) → Malformed ≡ n → n ≡ Whole value size → A
 never n value size p q = let z : _≡_ {A = ℕ} 0 1 = cc in absurd (omega arith)
 
-same-value : (n : Number) (v w i j : ℕ) → Whole v i ≡ n → n ≡ Whole w j → v ≡ w
+same-value : (n : Value) (v w i j : ℕ) → Whole v i ≡ n → n ≡ Whole w j → v ≡ w
 same-value n v w i j p q = cc
 
-same-size : (n : Number) (v w i j : ℕ) → Whole v i ≡ n → n ≡ Whole w j → i ≡ j
+same-size : (n : Value) (v w i j : ℕ) → Whole v i ≡ n → n ≡ Whole w j → i ≡ j
 same-size n v w i j p q = cc
 
 pub read-back : (s : List ℕ) (value size : ℕ) → numberOf s ≡ Whole value size → Read s value size

@@ -1,34 +1,46 @@
 -- The other way: a text that is taken is the text of the table that it fills (`TextBack` of specs/Claims.antt).
 use Prim.Native.Nat.{ℕ, zero, suc, _+_, _<_, _≤_}
 use mathlib.Core.Path.{_≡_, refl, sym, ap, subst, _∙_}
-use mathlib.Core.List.{List, [], _∷_, _++_}
-use mathlib.Core.Bool.{cond}
-use mathlib.Core.Logic.{_⊎_, ⊎-elim}
+use mathlib.Core.List.{List, [], _∷_, _++_, append-assoc}
+use mathlib.Core.Bool.{true, cond}
+use mathlib.Core.Logic.{⊎-elim}
 use native.Mathlib.Omega.{arith}
-use borrow.Author.Tests.{eq-eqb, ne-eqb}
-use lib.Dec.{eqb}
+use borrow.Author.Tests.{eq-eqb, ne-eqb, leb-true, leb-false}
+use lib.Dec.{leb, eqb}
 use lib.ListN.{length, getD, drop, set, replicate, length-set, getD-replicate}
 use lib.Seq.{getD-set-same, getD-set-other}
 use Rattle.octets.proofs.Order.{lt-or-le, eq-or-ne}
-use Rattle.record.specs.declared.syntax.Syntax.{Syntax}
 use Rattle.record.specs.declared.syntax.Record.{Record}
 use Rattle.record.specs.declared.table.Found.the-variants.{Provisioned, Unprovisioned}
+use Rattle.record.specs.Record.{mListed, seqListed, legal, packed, meaning, foundAt}
+use Rattle.record.proofs.Listed.{both}
+use Rattle.record.proofs.Packing as packing
 use Rattle.provisioning.specs.declared.line.Kind.{Kind}
 use Rattle.provisioning.specs.declared.line.Kind.the-variants.{OfCid, OfSyntax, OfM, OfSeq}
 use Rattle.provisioning.specs.declared.line.State.{State}
-use Rattle.provisioning.specs.declared.line.Step.{Step}
-use Rattle.provisioning.specs.declared.line.Step.the-variants.{Goes, Ends, Stops}
-use Rattle.record.specs.Record.{packed, meaning, foundAt}
-use Rattle.provisioning.specs.Line.{afterBlock, lineAt}
-use Rattle.provisioning.specs.Text.{mostOctets, Entry, Reading, refused, taken, before, atEnd, onwards, walk, filled, tableOf}
-use Rattle.provisioning.specs.Back.{blockText, textFrom, textOfTable}
-use Rattle.provisioning.specs.Claims.{textOf, Rises, TextBack}
-use Rattle.record.proofs.Packing as packing
+use Rattle.provisioning.specs.Line.{start}
+use Rattle.provisioning.specs.Text.{mostOctets, Entry, Reading, refused, taken, before, atEnd, after, onwards, walk, filled, tableOf}
+use Rattle.provisioning.specs.Back.{lineText, blockText, textFrom, textOfTable}
+use Rattle.provisioning.specs.Claims.{textOf, Risen, Rises, TextBack}
 use Rattle.provisioning.proofs.Steps as steps
 use Rattle.provisioning.proofs.Turns as turns
 
-pub record Back (last : ℕ) (st : State) (s : List ℕ) (es : List Entry) : Type 0 where
-  pub text : steps.soFar st ++ s ≡ textOf es
+-- the lines of the present block that were read
+abbrev soFar : Kind → ℕ → Record → List ℕ
+soFar OfCid cid r = []
+soFar OfSyntax cid r = lineText OfCid cid r
+soFar OfM cid r = lineText OfCid cid r ++ lineText OfSyntax cid r
+soFar OfSeq cid r = lineText OfCid cid r ++ lineText OfSyntax cid r ++ lineText OfM cid r
+
+-- what holds of them, where `last` is the CID of the block before
+abbrev Good : Kind → ℕ → ℕ → Record → Type 0
+Good OfCid last cid r = cid ≡ last
+Good OfSyntax last cid r = Risen last cid
+Good OfM last cid r = Risen last cid
+Good OfSeq last cid r = Risen last cid × (mListed (r .syntax) (r .m) ≡ true)
+
+record Back (last : ℕ) (st : State) (s : List ℕ) (es : List Entry) : Type 0 where
+  pub text : soFar (st .kind) (st .cid) (st .made) ++ s ≡ textOf es
   pub rises : Rises last es
 
 never : {A : Type 0} (number line : ℕ) (es : List Entry) → refused number line ≡ taken es → A
@@ -38,63 +50,95 @@ same : (es fs : List Entry) → taken es ≡ taken fs → es ≡ fs
 same es fs e = cc
 
 end-back :
-    (kind : Kind) (cid : ℕ) (syntax : Syntax) (m last done : ℕ) (es : List Entry)
+    (kind : Kind) (cid : ℕ) (made : Record) (last done : ℕ) (es : List Entry)
     → atEnd kind done ≡ taken es
-    → Back last (record { kind = kind; cid = cid; syntax = syntax; m = m }) [] es
-end-back OfCid cid syntax m last done es e =
-    subst (Back last (record { kind = OfCid; cid = cid; syntax = syntax; m = m }) []) (same [] es e)
-    (record { text = refl; rises = tt })
-end-back OfSyntax cid syntax m last done es e = never _ _ es e
-end-back OfM cid syntax m last done es e = never _ _ es e
-end-back OfSeq cid syntax m last done es e = never _ _ es e
+    → Back last (record { kind = kind; cid = cid; made = made }) [] es
+end-back OfCid cid made last done es e =
+    subst (Back last (record { kind = OfCid; cid = cid; made = made }) []) (same [] es e) (record { text = refl; rises = tt })
+end-back OfSyntax cid made last done es e = never _ _ es e
+end-back OfM cid made last done es e = never _ _ es e
+end-back OfSeq cid made last done es e = never _ _ es e
 
+-- a line that stands at the start of s, after the lines before it
+stands-on :
+    (st : State) (s : List ℕ) (v n : ℕ)
+    → let to : State = steps.next st v in
+    let others : List ℕ = soFar (st .kind) (st .cid) (st .made) in
+    let line : List ℕ = lineText (st .kind) (to .cid) (to .made) in
+    s ≡ line ++ drop n s → others ++ s ≡ (others ++ line) ++ drop n s
+stands-on st s v n e =
+    let to : State = steps.next st v in
+    ap (λ (l : List ℕ). soFar (st .kind) (st .cid) (st .made) ++ l) e
+    ∙ sym (append-assoc (soFar (st .kind) (st .cid) (st .made)) (lineText (st .kind) (to .cid) (to .made)) (drop n s))
+
+-- the reading of what is left, from any state
+abbrev Later : (State → List ℕ → Reading) → Type 0
+Later rest =
+    (st : State) (s : List ℕ) (last : ℕ) (es : List Entry)
+    → Good (st .kind) last (st .cid) (st .made)
+    → rest st s ≡ taken es
+    → Back last st s es
+
+-- the last line of a block, and the blocks after it
 block-back :
-    (st : State) (s : List ℕ) (cid : ℕ) (made : Record) (size last : ℕ) (es : List Entry) (rest : Reading)
-    → steps.EndsHere st s cid made size
-    → ((more : List Entry) → rest ≡ taken more → Back cid (afterBlock cid) (drop size s) more)
-    → steps.Good last st
-    → before (record { cid = cid; made = made }) rest ≡ taken es
-    → Back last st s es
-block-back st s cid made size last es (refused number line) told rec good e = never number line es e
-block-back st s cid made size last es (taken more) told rec good e =
-    let b = rec more refl in
-    let g = told .good last good in
-    subst (Back last st s) (same (record { cid = cid; made = made } ∷ more) es e)
-    (record {
-      text = told .text ∙ ap (λ (l : List ℕ). blockText cid made ++ l) (b .text);
-      rises = (g .0, g .1, b .rises);
-    })
+    (cid : ℕ) (r : Record) (line s : List ℕ) (last : ℕ) (es : List Entry) (rest : Reading)
+    → Risen last cid
+    → legal r ≡ true
+    → ((more : List Entry) → rest ≡ taken more → (line ≡ textOf more) × Rises cid more)
+    → before (record { cid = cid; made = r }) rest ≡ taken es
+    → s ≡ blockText cid r ++ line
+    → (s ≡ textOf es) × Rises last es
+block-back cid r line s last es (refused number at) risen lawful later e text = never _ _ es e
+block-back cid r line s last es (taken more) risen lawful later e text =
+    let l = later more refl in
+    subst (λ (fs : List Entry). (s ≡ textOf fs) × Rises last fs) (same (record { cid = cid; made = r } ∷ more) es e)
+    (text ∙ ap (λ (t : List ℕ). blockText cid r ++ t) (l .0), (risen, lawful, l .1))
 
-step-back :
-    (step : Step) (st : State) (s : List ℕ) (done last : ℕ) (es : List Entry) (rest : State → List ℕ → Reading)
-    → steps.Told st s step
-    → ((next : State) (left : List ℕ) (b : ℕ) (more : List Entry) → steps.Good b next → rest next left ≡ taken more → Back b next left more)
-    → steps.Good last st
-    → onwards step done s rest ≡ taken es
+goes-back :
+    (kind : Kind) (cid : ℕ) (made : Record) (s : List ℕ) (v n last : ℕ) (es : List Entry) (rest : State → List ℕ → Reading)
+    → let st : State = record { kind = kind; cid = cid; made = made } in
+    steps.Took st s v n
+    → Later rest
+    → Good kind last cid made
+    → after (steps.next st v) (rest (steps.next st v) (drop n s)) ≡ taken es
     → Back last st s es
-step-back (Goes next size) st s done last es rest told rec good e =
-    let b = rec next (drop size s) last es (told .good last good) e in
-    record { text = told .text ∙ b .text; rises = b .rises }
-step-back (Ends cid made size) st s done last es rest told rec good e =
-    block-back st s cid made size last es (rest (afterBlock cid) (drop size s)) told
-    (λ more h. rec (afterBlock cid) (drop size s) cid more refl h)
-    good
+unfolding blockText
+goes-back OfCid cid made s v n last es rest took later good e =
+    let st : State = record { kind = OfCid; cid = cid; made = made } in
+    let listed = both (leb 4 v) (leb v 255) (took .listed) in
+    let above : cid < v = leb-false v cid (took .above) in
+    let risen : Risen last v = record { above = rw (← good) above; from = leb-true 4 v (listed .0); to = leb-true v 255 (listed .1) } in
+    let b = later (steps.next st v) (drop n s) last es risen e in
+    record { text = took .text ∙ b .text; rises = b .rises }
+goes-back OfSyntax cid made s v n last es rest took later good e =
+    let st : State = record { kind = OfSyntax; cid = cid; made = made } in
+    let b = later (steps.next st v) (drop n s) last es good e in
+    record { text = stands-on st s v n (took .text) ∙ b .text; rises = b .rises }
+goes-back OfM cid made s v n last es rest took later good e =
+    let st : State = record { kind = OfM; cid = cid; made = made } in
+    let b = later (steps.next st v) (drop n s) last es (good, took .listed) e in
+    record { text = stands-on st s v n (took .text) ∙ b .text; rises = b .rises }
+goes-back OfSeq cid made s v n last es rest took later good e =
+    let st : State = record { kind = OfSeq; cid = cid; made = made } in
+    let listed = both (leb v 1) (seqListed (made .syntax) (eqb v 1)) (took .listed) in
+    let b =
+    block-back cid (steps.next st v .made) (drop n s) (soFar OfSeq cid made ++ s) last es (rest (steps.next st v) (drop n s)) (good .0)
+    (rw (good .1) (listed .1))
+    (λ more h. let l = later (steps.next st v) (drop n s) cid more refl h in (l .text, l .rises))
     e
-step-back (Stops number) st s done last es rest told rec good e = never _ _ es e
+    (stands-on st s v n (took .text)) in
+    record { text = b .0; rises = b .1 }
 
-pub walk-back :
-    (room : ℕ) (st : State) (done : ℕ) (s : List ℕ) (last : ℕ) (es : List Entry)
-    → steps.Good last st
-    → walk room st done s ≡ taken es
-    → Back last st s es
+walk-back : (room done : ℕ) → Later (λ st s. walk room st done s)
 unfolding walk
-walk-back zero st done s last es good e = never _ _ es e
-walk-back (suc room) st done [] last es good e = end-back (st .kind) (st .cid) (st .syntax) (st .m) last done es e
-walk-back (suc room) st done (x ∷ xs) last es good e =
-    step-back (lineAt st (x ∷ xs)) st (x ∷ xs) done last es (λ next rest. walk room next (done + 1) rest)
-    (steps.told st (x ∷ xs) (lineAt st (x ∷ xs)) refl)
-    (λ next left b more g h. walk-back room next (done + 1) left b more g h)
-    good
+walk-back zero done st s last es good e = never _ _ es e
+walk-back (suc room) done st [] last es good e = end-back (st .kind) (st .cid) (st .made) last done es e
+walk-back (suc room) done st (x ∷ xs) last es good e =
+    steps.line-cases st (x ∷ xs)
+    (λ step. onwards step done (x ∷ xs) (λ next rest. walk room next (done + 1) rest) ≡ taken es → Back last st (x ∷ xs) es)
+    (λ v n took h.
+    goes-back (st .kind) (st .cid) (st .made) (x ∷ xs) v n last es (λ next rest. walk room next (done + 1) rest) took (walk-back room (done + 1)) good h)
+    (λ number h. never _ _ es h)
     e
 
 -- what stands at place j, where d stood before the entries
@@ -123,8 +167,7 @@ absent (e ∷ es) last d j r h =
     simp (ne-eqb j (e .cid) ne) (absent es (e .cid) d j (r .2) (omega arith))
 
 zero-means : meaning 0 ≡ Unprovisioned
-unfolding meaning
-zero-means = refl
+zero-means = packing.none-at-zero 0 refl
 
 -- the text of the CIDs after `last`, where the table holds these entries there
 from-back :
@@ -187,6 +230,6 @@ pub text-back : TextBack
 text-back s es e =
     ⊎-elim (λ long. never _ _ es (sym (turns.too-long s long) ∙ e))
     (λ fits.
-    let b = walk-back (mostOctets + 1) (afterBlock 0) 0 s 0 es refl (sym (turns.walked s fits) ∙ e) in
+    let b = walk-back (mostOctets + 1) 0 start s 0 es refl (sym (turns.walked s fits) ∙ e) in
     table-back es 0 (b .rises) ∙ sym (b .text))
     (lt-or-le mostOctets (length s))

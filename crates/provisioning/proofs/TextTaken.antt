@@ -2,27 +2,30 @@
 use Prim.Native.Nat.{ℕ, zero, suc, _+_, _*_, _/_, _%_, _<_, _≤_}
 use mathlib.Core.Path.{_≡_, refl, sym, ap, _∙_}
 use mathlib.Core.List.{List, [], _∷_, _++_, append-assoc}
-use mathlib.Core.Bool.{Bool, true, false, cond}
+use mathlib.Core.Bool.{Bool, true, false, cond, _&&_}
 use mathlib.Core.Logic.{⊎-elim}
 use native.Mathlib.Omega.{arith}
-use borrow.Author.Tests.{lt-ltb, le-ltb, eq-eqb, ltb-false, eqb-false}
-use lib.Dec.{ltb, eqb}
+use borrow.Author.Tests.{lt-ltb, le-ltb, le-leb, lt-leb, eq-eqb}
+use lib.Dec.{leb, eqb}
 use lib.ListN.{length, drop, length-append}
+use Rattle.octets.specs.Text.{starts}
 use Rattle.octets.proofs.Order.{lt-or-le}
 use Rattle.record.specs.declared.syntax.Syntax.{Syntax}
 use Rattle.record.specs.declared.syntax.Syntax.the-variants.{Acelp, Pcm, G727, G728, G7231, Data, Fax}
 use Rattle.record.specs.declared.syntax.Record.{Record}
-use Rattle.provisioning.specs.declared.value.Number.the-variants.{Whole}
+use Rattle.record.specs.Record.{word, place, mListed, seqListed, legal}
+use Rattle.record.proofs.Listed.{both}
+use Rattle.record.proofs.Packing.{bit-small, bit-of, place-back, m-small}
+use Rattle.provisioning.specs.declared.value.Value.the-variants.{Whole}
+use Rattle.provisioning.specs.declared.line.Kind.{Kind}
 use Rattle.provisioning.specs.declared.line.Kind.the-variants.{OfCid, OfSyntax, OfM, OfSeq}
 use Rattle.provisioning.specs.declared.line.State.{State}
 use Rattle.provisioning.specs.declared.line.Step.{Step}
-use Rattle.provisioning.specs.declared.line.Step.the-variants.{Goes, Ends}
-use Rattle.record.specs.Record.{word, mostM, seqListed, legal}
-use Rattle.octets.specs.Text.{starts}
-use Rattle.provisioning.specs.Value.{digitOf, numberOf, numberLine, wordAmong}
-use Rattle.provisioning.specs.Line.{key, afterBlock, afterCid, afterSyntax, afterM, syntaxBy, syntaxLine, lineAt}
-use Rattle.provisioning.specs.Text.{mostOctets, Entry, taken, before, onwards, walk}
-use Rattle.provisioning.specs.Back.{decimal, lineText, blockText}
+use Rattle.provisioning.specs.declared.line.Step.the-variants.{Goes}
+use Rattle.provisioning.specs.Value.{digitOf, numberOf, wordAmong, wordOf, valueLine}
+use Rattle.provisioning.specs.Line.{row, lineAt}
+use Rattle.provisioning.specs.Text.{mostOctets, Entry, taken, before, after, onwards, walk}
+use Rattle.provisioning.specs.Back.{decimal, valueText, lineText, blockText}
 use Rattle.provisioning.specs.Claims.{textOf, Risen, Rises, LegalTaken}
 use Rattle.provisioning.proofs.Values as values
 use Rattle.provisioning.proofs.Lines as lines
@@ -94,93 +97,106 @@ number-read n rest most =
     (lt-or-le n 100))
     (lt-or-le n 10)
 
-line-length : (k value : List ℕ) → length (lineText k value) ≡ length k + (length value + 1)
-line-length k value = length-append k (value ++ 10 ∷ []) ∙ ap (λ (n : ℕ). length k + n) (length-append value (10 ∷ []))
-
-line-cut : (k value rest : List ℕ) → lineText k value ++ rest ≡ k ++ (value ++ 10 ∷ rest)
-line-cut k value rest = append-assoc k (value ++ 10 ∷ []) rest ∙ ap (λ (l : List ℕ). k ++ l) (append-assoc value (10 ∷ []) rest)
-
--- a key and a number before an LF
-number-line :
-    (k : List ℕ) (n : ℕ) (rest : List ℕ) → n < 1000 → numberLine k (lineText k (decimal n) ++ rest) ≡ Whole n (length (lineText k (decimal n)))
-unfolding numberLine Reads
-number-line k n rest most =
-    let s : List ℕ = decimal n ++ 10 ∷ rest in
-    rw (line-cut k (decimal n) rest, line-length k (decimal n), starts-app k s, drop-app k s, number-read n rest most)
-
-module _ (rest : List ℕ) where
-  cid-line :
-      (last cid : ℕ) → Risen last cid → lineAt (afterBlock last) (lineText (key OfCid) (decimal cid) ++ rest) ≡ Goes (afterCid cid) (length (lineText (key OfCid) (decimal cid)))
-  cid-line last cid r =
-      let to : cid ≤ 255 = r .to in
-      lines.cid-taken (number-line (key OfCid) cid rest (omega arith)) last (r .from) to (r .above)
-
-  syntax-line :
-      (cid : ℕ) (x : Syntax) → lineAt (afterCid cid) (lineText (key OfSyntax) (word x) ++ rest) ≡ Goes (afterSyntax cid x) (length (lineText (key OfSyntax) (word x)))
-  unfolding syntaxLine syntaxBy wordAmong starts
-  syntax-line cid Acelp = refl
-  syntax-line cid Pcm = refl
-  syntax-line cid G727 = refl
-  syntax-line cid G728 = refl
-  syntax-line cid G7231 = refl
-  syntax-line cid Data = refl
-  syntax-line cid Fax = refl
-
-  m-line :
-      (cid : ℕ) (x : Syntax) (m : ℕ)
-      → (m ≡ 0 → ⊥)
-      → m ≤ mostM x
-      → lineAt (afterSyntax cid x) (lineText (key OfM) (decimal m) ++ rest) ≡ Goes (afterM cid x m) (length (lineText (key OfM) (decimal m)))
-  m-line cid x m some to =
-      let most : mostM x ≤ 12 = lines.most-small x in
-      lines.m-taken (number-line (key OfM) m rest (omega arith)) cid x some to
-
-  seq-line :
-      (cid : ℕ) (x : Syntax) (m : ℕ) (t : Bool)
-      → seqListed x t ≡ true
-      → lineAt (afterM cid x m) (lineText (key OfSeq) (decimal (cond t 1 0)) ++ rest)
-      ≡ Ends cid (record { syntax = x; m = m; seq = t }) (length (lineText (key OfSeq) (decimal (cond t 1 0))))
-  seq-line cid x m true listed = lines.seq-taken (number-line (key OfSeq) 1 rest (omega arith)) cid x m (omega arith) listed
-  seq-line cid x m false listed = lines.seq-taken (number-line (key OfSeq) 0 rest (omega arith)) cid x m (omega arith) listed
-
--- one line of the walk
-goes-on :
-    (room done : ℕ) (st next : State) (line rest : List ℕ)
+-- a line that goes on
+step-on :
+    (room done : ℕ) (st : State) (line rest : List ℕ)
     → 0 < length line
+    → (next : State)
     → lineAt st (line ++ rest) ≡ Goes next (length line)
-    → walk (suc room) st done (line ++ rest) ≡ walk room next (done + 1) rest
+    → walk (suc room) st done (line ++ rest) ≡ after next (walk room next (done + 1) (drop (length line) (line ++ rest)))
 unfolding walk
-goes-on room done st next [] rest some e = absurd (omega arith)
-goes-on room done st next (x ∷ xs) rest some e =
+step-on room done st [] rest some next e = absurd (omega arith)
+step-on room done st (x ∷ xs) rest some next e =
     ap (λ (step : Step). onwards step done (x ∷ xs ++ rest) (λ to left. walk room to (done + 1) left)) e
-    ∙ ap (walk room next (done + 1)) (drop-app (x ∷ xs) rest)
 
-ends-here :
-    (room done : ℕ) (st : State) (cid : ℕ) (made : Record) (line rest : List ℕ)
-    → 0 < length line
-    → lineAt st (line ++ rest) ≡ Ends cid made (length line)
-    → walk (suc room) st done (line ++ rest) ≡ before (record { cid = cid; made = made }) (walk room (afterBlock cid) (done + 1) rest)
-unfolding walk
-ends-here room done st cid made [] rest some e = absurd (omega arith)
-ends-here room done st cid made (x ∷ xs) rest some e =
-    ap (λ (step : Step). onwards step done (x ∷ xs ++ rest) (λ to left. walk room to (done + 1) left)) e
-    ∙ ap (λ (l : List ℕ). before (record { cid = cid; made = made }) (walk room (afterBlock cid) (done + 1) l)) (drop-app (x ∷ xs) rest)
+-- places and bits are listed
+place-listed : (x : Syntax) → (leb 1 (place x) && leb (place x) 7) ≡ true
+place-listed Acelp = refl
+place-listed Pcm = refl
+place-listed G727 = refl
+place-listed G728 = refl
+place-listed G7231 = refl
+place-listed Data = refl
+place-listed Fax = refl
+
+bit-listed :
+    (x : Syntax) (t : Bool)
+    → seqListed x t ≡ true
+    → (leb (cond t 1 0) 1 && seqListed x (eqb (cond t 1 0) 1)) ≡ true
+bit-listed x true e = e
+bit-listed x false e = e
+
+word-read : (x : Syntax) (rest : List ℕ) → wordOf (word x ++ 10 ∷ rest) ≡ Whole (place x) (length (word x) + 1)
+unfolding wordAmong starts
+word-read Acelp rest = refl
+word-read Pcm rest = refl
+word-read G727 rest = refl
+word-read G728 rest = refl
+word-read G7231 rest = refl
+word-read Data rest = refl
+word-read Fax rest = refl
+
+-- what a line of this kind tells of a block
+abbrev tells : Kind → ℕ → Record → ℕ
+tells OfCid cid r = cid
+tells OfSyntax cid r = place (r .syntax)
+tells OfM cid r = r .m
+tells OfSeq cid r = cond (r .seq) 1 0
 
 -- what a legal record has
 record Legal (r : Record) : Type 0 where
-  pub some : r .m ≡ 0 → ⊥
-  pub to : r .m ≤ mostM (r .syntax)
-  pub listed : seqListed (r .syntax) (r .seq) ≡ true
-
-three-tests : (a b c : Bool) → cond a false (cond b false c) ≡ true → (a ≡ false) × (b ≡ false) × (c ≡ true)
-three-tests true b c e = absurd (values.true-not-false (sym e))
-three-tests false true c e = absurd (values.true-not-false (sym e))
-three-tests false false c e = (refl, refl, e)
+  pub m : mListed (r .syntax) (r .m) ≡ true
+  pub most : r .m ≤ 12
+  pub seq : seqListed (r .syntax) (r .seq) ≡ true
 
 legal-has : (r : Record) → legal r ≡ true → Legal r
 legal-has r e =
-    let t = three-tests (eqb (r .m) 0) (ltb (mostM (r .syntax)) (r .m)) (seqListed (r .syntax) (r .seq)) e in
-    record { some = eqb-false (r .m) 0 (t .0); to = ltb-false (mostM (r .syntax)) (r .m) (t .1); listed = t .2 }
+    let h = both (mListed (r .syntax) (r .m)) (seqListed (r .syntax) (r .seq)) e in
+    record { m = h .0; most = m-small r e; seq = h .1 }
+
+module _ (cid : ℕ) (r : Record) (to : cid ≤ 255) (has : Legal r) where
+  value-read :
+      (kind : Kind) (rest : List ℕ)
+      → row kind .read (valueText kind cid r ++ 10 ∷ rest) ≡ Whole (tells kind cid r) (length (valueText kind cid r) + 1)
+  unfolding Reads
+  value-read OfCid rest = number-read cid rest (omega arith)
+  value-read OfSyntax rest = word-read (r .syntax) rest
+  value-read OfM rest = number-read (r .m) rest (omega (arith, has .most))
+  value-read OfSeq rest = number-read (cond (r .seq) 1 0) rest (omega (arith, bit-small (r .seq)))
+
+  line-length : (kind : Kind) → length (lineText kind cid r) ≡ length (row kind .key) + (length (valueText kind cid r) + 1)
+  line-length kind =
+      length-append (row kind .key) (valueText kind cid r ++ 10 ∷ [])
+      ∙ ap (λ (n : ℕ). length (row kind .key) + n) (length-append (valueText kind cid r) (10 ∷ []))
+
+  line-cut : (kind : Kind) (rest : List ℕ) → lineText kind cid r ++ rest ≡ row kind .key ++ (valueText kind cid r ++ 10 ∷ rest)
+  line-cut kind rest =
+      append-assoc (row kind .key) (valueText kind cid r ++ 10 ∷ []) rest
+      ∙ ap (λ (l : List ℕ). row kind .key ++ l) (append-assoc (valueText kind cid r) (10 ∷ []) rest)
+
+  -- a key, its value and an LF are read
+  line-read :
+      (kind : Kind) (rest : List ℕ)
+      → valueLine (row kind .key) (row kind .read) (lineText kind cid r ++ rest)
+      ≡ Whole (tells kind cid r) (length (lineText kind cid r))
+  unfolding valueLine
+  line-read kind rest =
+      let k : List ℕ = row kind .key in
+      let s : List ℕ = valueText kind cid r ++ 10 ∷ rest in
+      rw (line-cut kind rest, line-length kind, starts-app k s, drop-app k s, value-read kind rest)
+
+  -- one line of the walk
+  one-line :
+      (room done : ℕ) (st : State) (rest : List ℕ)
+      → row (st .kind) .listed (st .made) (tells (st .kind) cid r) ≡ true
+      → (row (st .kind) .begins && leb (tells (st .kind) cid r) (st .cid)) ≡ false
+      → let next : State = row (st .kind) .told st (tells (st .kind) cid r) in
+      walk (suc room) st done (lineText (st .kind) cid r ++ rest) ≡ after next (walk room next (done + 1) rest)
+  one-line room done st rest listed above =
+      let next : State = row (st .kind) .told st (tells (st .kind) cid r) in
+      let some : 0 < length (lineText (st .kind) cid r) = omega (arith, line-length (st .kind)) in
+      step-on room done st (lineText (st .kind) cid r) rest some _ (lines.taken st (line-read (st .kind) rest) listed above)
+      ∙ ap (λ (l : List ℕ). after next (walk room next (done + 1) l)) (drop-app (lineText (st .kind) cid r) rest)
 
 -- a block's four lines
 block-cut :
@@ -188,36 +204,49 @@ block-cut :
 block-cut a b c d rest = simp append-assoc
 
 block-walk :
-    (room done last cid : ℕ) (r : Record) (rest : List ℕ)
+    (room done last cid : ℕ) (old r : Record) (rest : List ℕ)
     → Risen last cid
     → Legal r
-    → walk (suc (suc (suc (suc room)))) (afterBlock last) done (blockText cid r ++ rest)
-    ≡ before (record { cid = cid; made = r }) (walk room (afterBlock cid) (done + 1 + 1 + 1 + 1) rest)
+    → walk (suc (suc (suc (suc room)))) (record { kind = OfCid; cid = last; made = old }) done (blockText cid r ++ rest)
+    ≡ before (record { cid = cid; made = r }) (walk room (record { kind = OfCid; cid = cid; made = r }) (done + 1 + 1 + 1 + 1) rest)
 unfolding blockText
-block-walk room done last cid r rest risen has =
+block-walk room done last cid old r rest risen has =
     let x : Syntax = r .syntax in
-    let a : List ℕ = lineText (key OfCid) (decimal cid) in
-    let b : List ℕ = lineText (key OfSyntax) (word (r .syntax)) in
-    let c : List ℕ = lineText (key OfM) (decimal (r .m)) in
-    let d : List ℕ = lineText (key OfSeq) (decimal (cond (r .seq) 1 0)) in
-    ap (walk (suc (suc (suc (suc room)))) (afterBlock last) done) (block-cut a b c d rest)
-    ∙ goes-on (suc (suc (suc room))) done (afterBlock last) (afterCid cid) a (b ++ (c ++ (d ++ rest))) (omega arith) (cid-line (b ++ (c ++ (d ++ rest))) last cid risen)
-    ∙ goes-on (suc (suc room)) (done + 1) (afterCid cid) (afterSyntax cid x) b (c ++ (d ++ rest)) (omega arith) (syntax-line (c ++ (d ++ rest)) cid x)
-    ∙ goes-on (suc room) (done + 1 + 1) (afterSyntax cid x) (afterM cid x (r .m)) c (d ++ rest) (omega arith) (m-line (d ++ rest) cid x (r .m) (has .some) (has .to))
-    ∙ ends-here room (done + 1 + 1 + 1) (afterM cid x (r .m)) cid r d rest (omega arith) (seq-line rest cid x (r .m) (r .seq) (has .listed))
+    let a : List ℕ = lineText OfCid cid r in
+    let b : List ℕ = lineText OfSyntax cid r in
+    let c : List ℕ = lineText OfM cid r in
+    let d : List ℕ = lineText OfSeq cid r in
+    let st0 : State = record { kind = OfCid; cid = last; made = old } in
+    let st1 : State = record { kind = OfSyntax; cid = cid; made = old } in
+    let st2 : State = record { kind = OfM; cid = cid; made = record { syntax = x; m = old .m; seq = old .seq } } in
+    let st3 : State = record { kind = OfSeq; cid = cid; made = record { syntax = x; m = r .m; seq = old .seq } } in
+    let from : 4 ≤ cid = risen .from in
+    let to : cid ≤ 255 = risen .to in
+    let above : last < cid = risen .above in
+    ap (walk (suc (suc (suc (suc room)))) st0 done) (block-cut a b c d rest)
+    ∙ one-line cid r to has (suc (suc (suc room))) done st0 (b ++ (c ++ (d ++ rest))) (simp (le-leb 4 cid from, le-leb cid 255 to)) (lt-leb cid last above)
+    ∙ one-line cid r to has (suc (suc room)) (done + 1) st1 (c ++ (d ++ rest)) (place-listed x) refl
+    ∙ ap (λ (y : Syntax). walk (suc (suc room)) (record { kind = OfM; cid = cid; made = record { syntax = y; m = old .m; seq = old .seq } }) (done + 1 + 1) (c ++ (d ++ rest))) (place-back x)
+    ∙ one-line cid r to has (suc room) (done + 1 + 1) st2 (d ++ rest) (has .m) refl
+    ∙ one-line cid r to has room (done + 1 + 1 + 1) st3 rest (bit-listed x (r .seq) (has .seq)) refl
+    ∙ ap (λ (t : Bool). let made : Record = record { syntax = x; m = r .m; seq = t } in
+    before (record { cid = cid; made = made }) (walk room (record { kind = OfCid; cid = cid; made = made }) (done + 1 + 1 + 1 + 1) rest)) (bit-of (r .seq))
 
 -- the walk of the blocks, with room for their lines and the end
 blocks-walk :
-    (es : List Entry) (room done last : ℕ) → Rises last es → 4 * length es < room → walk room (afterBlock last) done (textOf es) ≡ taken es
+    (es : List Entry) (room done last : ℕ) (old : Record)
+    → Rises last es
+    → 4 * length es < room
+    → walk room (record { kind = OfCid; cid = last; made = old }) done (textOf es) ≡ taken es
 unfolding walk
-blocks-walk es zero done last r h = absurd (omega arith)
-blocks-walk [] (suc room) done last r h = refl
-blocks-walk (e ∷ es) (suc (suc (suc (suc room)))) done last r h =
-    block-walk room done last (e .cid) (e .made) (textOf es) (r .0) (legal-has (e .made) (r .1))
-    ∙ ap (before e) (blocks-walk es room (done + 1 + 1 + 1 + 1) (e .cid) (r .2) (omega arith))
-blocks-walk (e ∷ es) (suc (suc (suc zero))) done last r h = absurd (omega arith)
-blocks-walk (e ∷ es) (suc (suc zero)) done last r h = absurd (omega arith)
-blocks-walk (e ∷ es) (suc zero) done last r h = absurd (omega arith)
+blocks-walk es zero done last old r h = absurd (omega arith)
+blocks-walk [] (suc room) done last old r h = refl
+blocks-walk (e ∷ es) (suc (suc (suc (suc room)))) done last old r h =
+    block-walk room done last (e .cid) old (e .made) (textOf es) (r .0) (legal-has (e .made) (r .1))
+    ∙ ap (before e) (blocks-walk es room (done + 1 + 1 + 1 + 1) (e .cid) (e .made) (r .2) (omega arith))
+blocks-walk (e ∷ es) (suc (suc (suc zero))) done last old r h = absurd (omega arith)
+blocks-walk (e ∷ es) (suc (suc zero)) done last old r h = absurd (omega arith)
+blocks-walk (e ∷ es) (suc zero) done last old r h = absurd (omega arith)
 
 -- how long the lines are
 word-length : (x : Syntax) → length (word x) ≤ 5
@@ -243,34 +272,25 @@ digits-three n =
     (λ high. rw (three-digits n high) (omega arith))
     (lt-or-le n 100)
 
-bit-small : (t : Bool) → cond t 1 0 < 10
-bit-small true = omega arith
-bit-small false = omega arith
-
-block-length : (cid : ℕ) (r : Record) → Legal r → length (blockText cid r) ≤ 32
+block-length : (cid : ℕ) (r : Record) → cid ≤ 255 → Legal r → length (blockText cid r) ≤ 32
 unfolding blockText
-block-length cid r has =
-    let a : List ℕ = lineText (key OfCid) (decimal cid) in
-    let b : List ℕ = lineText (key OfSyntax) (word (r .syntax)) in
-    let c : List ℕ = lineText (key OfM) (decimal (r .m)) in
-    let d : List ℕ = lineText (key OfSeq) (decimal (cond (r .seq) 1 0)) in
-    let small : r .m ≤ mostM (r .syntax) = has .to in
-    let most : mostM (r .syntax) ≤ 12 = lines.most-small (r .syntax) in
-    let la : length a ≤ 8 = omega (arith, line-length (key OfCid) (decimal cid), digits-three cid) in
-    let lb : length b ≤ 13 = omega (arith, line-length (key OfSyntax) (word (r .syntax)), word-length (r .syntax)) in
-    let lc : length c ≤ 5 = omega (arith, line-length (key OfM) (decimal (r .m)), digits-two (r .m) (omega arith)) in
-    let ld : length d ≤ 6 = omega (arith, line-length (key OfSeq) (decimal (cond (r .seq) 1 0)), digits-one (cond (r .seq) 1 0) (bit-small (r .seq))) in
-    four-lengths a b c d la lb lc ld
-  where
-    four-lengths :
-        (a b c d : List ℕ) → length a ≤ 8 → length b ≤ 13 → length c ≤ 5 → length d ≤ 6 → length (a ++ b ++ c ++ d) ≤ 32
-    four-lengths a b c d la lb lc ld =
-        omega (arith, length-append (a ++ b ++ c) d, length-append (a ++ b) c, length-append a b)
+block-length cid r to has =
+    let a : List ℕ = lineText OfCid cid r in
+    let b : List ℕ = lineText OfSyntax cid r in
+    let c : List ℕ = lineText OfM cid r in
+    let d : List ℕ = lineText OfSeq cid r in
+    let most : r .m ≤ 12 = has .most in
+    let bit : cond (r .seq) 1 0 ≤ 1 = bit-small (r .seq) in
+    let la : length a ≤ 8 = omega (arith, line-length cid r to has OfCid, digits-three cid) in
+    let lb : length b ≤ 13 = omega (arith, line-length cid r to has OfSyntax, word-length (r .syntax)) in
+    let lc : length c ≤ 5 = omega (arith, line-length cid r to has OfM, digits-two (r .m) (omega arith)) in
+    let ld : length d ≤ 6 = omega (arith, line-length cid r to has OfSeq, digits-one (cond (r .seq) 1 0) (omega arith)) in
+    omega (arith, length-append (a ++ b ++ c) d, length-append (a ++ b) c, length-append a b)
 
 text-length : (es : List Entry) (last : ℕ) → Rises last es → length (textOf es) ≤ 32 * length es
 text-length [] last r = omega arith
 text-length (e ∷ es) last r =
-    let here : length (blockText (e .cid) (e .made)) ≤ 32 = block-length (e .cid) (e .made) (legal-has (e .made) (r .1)) in
+    let here : length (blockText (e .cid) (e .made)) ≤ 32 = block-length (e .cid) (e .made) (r .0 .to) (legal-has (e .made) (r .1)) in
     let later : length (textOf es) ≤ 32 * length es = text-length es (e .cid) (r .2) in
     omega (arith, length-append (blockText (e .cid) (e .made)) (textOf es))
 
@@ -287,4 +307,4 @@ legal-taken es r =
     let few : length es + 0 ≤ 255 = entries-few es 0 r (omega arith) in
     let short : length (textOf es) ≤ 32 * length es = text-length es 0 r in
     let fits : length (textOf es) ≤ mostOctets = omega arith in
-    turns.walked (textOf es) fits ∙ blocks-walk es (mostOctets + 1) 0 0 r (omega arith)
+    turns.walked (textOf es) fits ∙ blocks-walk es (mostOctets + 1) 0 0 _ r (omega arith)

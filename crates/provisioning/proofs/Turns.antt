@@ -1,5 +1,5 @@
--- The loops of `read_text`: what was found, what stands in the table, and what is still to come of the text.
-use Prim.Native.Nat.{ℕ, suc, _+_, _-_, _*_, _<_, _≤_}
+-- The loop of `read_text`: what was found, what stands in the table, and what is still to come of the text.
+use Prim.Native.Nat.{ℕ, suc, _+_, _-_, _<_, _≤_}
 use mathlib.Core.Path.{_≡_, refl, sym, ap, _∙_}
 use mathlib.Core.List.{List, [], _∷_, _++_, append-nil}
 use mathlib.Core.Bool.{true, false}
@@ -8,14 +8,12 @@ use borrow.Author.Tests.{lt-ltb, le-ltb}
 use lib.ListN.{length, take, drop, set, replicate, drop-of-length-le, length-append}
 use lib.Seq.{drop-cons, drop-drop, append-snoc}
 use Rattle.refusal.specs.Numbers.{lineMalformed, textTooLong}
-use Rattle.record.specs.declared.syntax.Record.{Record}
 use Rattle.provisioning.specs.declared.line.State.{State}
 use Rattle.provisioning.specs.declared.line.Step.{Step}
-use Rattle.provisioning.specs.declared.line.Step.the-variants.{Goes, Ends, Stops}
+use Rattle.provisioning.specs.declared.line.Step.the-variants.{Goes, Stops}
 use Rattle.record.specs.Record.{packed}
-use Rattle.provisioning.specs.Line.{afterBlock, lineAt}
-use Rattle.provisioning.specs.Text.{mostOctets, Entry, Reading, refused, taken, before, betweenBlocks, atEnd, onwards, walk, reading, filled, tableOf}
-use Rattle.provisioning.specs.Block.{Ended}
+use Rattle.provisioning.specs.Line.{start, row, lineAt}
+use Rattle.provisioning.specs.Text.{mostOctets, Entry, Reading, refused, taken, before, atEnd, onwards, walk, reading, filled, tableOf}
 use Rattle.provisioning.proofs.Values as values
 use Rattle.provisioning.proofs.Steps as steps
 
@@ -51,11 +49,11 @@ pub too-long : (s : List ℕ) → mostOctets < length s → reading s ≡ refuse
 unfolding reading
 too-long s h = simp (lt-ltb mostOctets (length s) h)
 
-pub walked : (s : List ℕ) → length s ≤ mostOctets → reading s ≡ walk (mostOctets + 1) (afterBlock 0) 0 s
+pub walked : (s : List ℕ) → length s ≤ mostOctets → reading s ≡ walk (mostOctets + 1) start 0 s
 unfolding reading
 walked s h = simp (le-ltb mostOctets (length s) h)
 
-pub begins : (s : List ℕ) (st : State) → length s ≤ mostOctets → st ≡ afterBlock 0 → Going s (replicate 256 0) st 0 0 0
+pub begins : (s : List ℕ) (st : State) → length s ≤ mostOctets → st ≡ start → Going s (replicate 256 0) st 0 0 0
 begins s st fits is =
     record {
       found = [];
@@ -65,50 +63,14 @@ begins s st fits is =
       lines = omega arith;
       within = omega arith;
       counted = omega arith;
-      reads = walked s fits ∙ sym (rw is (behind-none (walk (mostOctets + 1) (afterBlock 0) 0 s)));
+      reads = walked s fits ∙ sym (rw is (behind-none (walk (mostOctets + 1) start 0 s)));
     }
 
--- a state by another name
-pub renamed :
-    {s places : List ℕ} {st : State} (next : State) {at done blocks : ℕ}
-    → Going s places st at done blocks
-    → next ≡ st
-    → Going s places next at done blocks
-renamed {s} {places} {st} next {at} {done} {blocks} going is = rw is going
+same-size : (p q : State) (m n : ℕ) → Goes p m ≡ Goes q n → m ≡ n
+same-size p q m n e = cc
 
--- the loop of blocks: four lines that were read in one go
-pub whole :
-    {s places : List ℕ} {last at blocks cid : ℕ} {made : Record} {end number : ℕ}
-    → Going s places (afterBlock last) at (blocks * 4) blocks
-    → Ended 4 (afterBlock last) s at cid made end
-    → number ≡ packed made
-    → Going s (set places cid number) (afterBlock cid) end ((blocks + 1) * 4) (blocks + 1)
-whole {s} {places} {last} {at} {blocks} {cid} {made} {end} {number} going ended packs =
-    let past : at + 4 ≤ end = ended .past in
-    let inside : end ≤ length s = ended .within in
-    let passed : blocks * 4 ≤ at = going .lines in
-    let entry : Entry = record { cid = cid; made = made } in
-    let room : ℕ = mostOctets + 1 - (blocks + 1) * 4 in
-    let enough : mostOctets + 1 - blocks * 4 ≡ room + 4 = omega (arith, going .fits) in
-    let count : blocks * 4 + 4 ≡ (blocks + 1) * 4 = omega arith in
-    let walks : walk (mostOctets + 1 - blocks * 4) (afterBlock last) (blocks * 4) (drop at s)
-    ≡ before entry (walk room (afterBlock cid) ((blocks + 1) * 4) (drop end s)) =
-    ap (λ (n : ℕ). walk n (afterBlock last) (blocks * 4) (drop at s)) enough
-    ∙ ended .walks room (blocks * 4)
-    ∙ ap (λ (n : ℕ). before entry (walk room (afterBlock cid) n (drop end s))) count in
-    record {
-      found = going .found ++ entry ∷ [];
-      many = length-append (going .found) (entry ∷ []) ∙ ap (λ (n : ℕ). n + 1) (going .many);
-      stands = rw (going .stands, packs) (sym (filled-more (replicate 256 0) (going .found) entry));
-      fits = going .fits;
-      lines = omega arith;
-      within = omega arith;
-      counted = omega arith;
-      reads =
-          going .reads
-          ∙ ap (behind (going .found)) walks
-          ∙ behind-more (going .found) entry (walk room (afterBlock cid) ((blocks + 1) * 4) (drop end s));
-    }
+never : {A : Type 0} (p : State) (number n : ℕ) → Stops number ≡ Goes p n → A
+never p number n e = let z : _≡_ {A = ℕ} 0 1 = cc in absurd (omega arith)
 
 module _ {s places : List ℕ} {st : State} {at done blocks : ℕ} (going : Going s places st at done blocks) where
   -- where the text ends
@@ -121,10 +83,10 @@ module _ {s places : List ℕ} {st : State} {at done blocks : ℕ} (going : Goin
       going .reads ∙ ap (behind (going .found)) rest
 
   module _ (ends : length s ≤ at) where
-    pub cut : betweenBlocks (st .kind) ≡ false → reading s ≡ refused lineMalformed (done + 1)
+    pub cut : row (st .kind) .begins ≡ false → reading s ≡ refused lineMalformed (done + 1)
     cut e = at-end ends ∙ simp e
 
-    pub all : betweenBlocks (st .kind) ≡ true → reading s ≡ taken (going .found)
+    pub all : row (st .kind) .begins ≡ true → reading s ≡ taken (going .found)
     all e = at-end ends ∙ simp (e, append-nil)
 
   module _ (more : at < length s) where
@@ -146,15 +108,17 @@ module _ {s places : List ℕ} {st : State} {at done blocks : ℕ} (going : Goin
     here step e = rw (values.rest-is s at) at e
 
     module _ {next : State} {size : ℕ} (e : lineAt st (take (length s - at) (drop at s)) ≡ Goes next size) where
-      told-line : steps.GoesOn st (drop at s) next size
-      told-line = steps.told st (drop at s) (Goes next size) (here (Goes next size) e)
+      pub line-size : (1 ≤ size) × (size ≤ 13)
+      line-size =
+          steps.line-cases st (drop at s) (λ step. step ≡ Goes next size → (1 ≤ size) × (size ≤ 13))
+          (λ v n took is. let same : n ≡ size = same-size _ next n size is in (rw (← same) (took .some), rw (← same) (took .few)))
+          (λ number is. never next number size is)
+          (here (Goes next size) e)
 
-      pub line-size : (1 ≤ size) × (size ≤ 20)
-      line-size = (told-line .some, told-line .few)
-
-      pub turn : Going s places next (at + size) (done + 1) blocks
-      turn =
-          let some : 1 ≤ size = told-line .some in
+      -- a line after which the block goes on
+      pub turn : row (next .kind) .begins ≡ false → Going s places next (at + size) (done + 1) blocks
+      turn inside =
+          let sized = line-size in
           let past : done ≤ at = going .lines in
           let fewer : blocks ≤ done = going .counted in
           record {
@@ -165,26 +129,20 @@ module _ {s places : List ℕ} {st : State} {at done blocks : ℕ} (going : Goin
             lines = omega arith;
             within = omega arith;
             counted = omega arith;
-            reads = on (Goes next size) (here (Goes next size) e) ∙ rw (drop-drop size at s);
+            reads = on (Goes next size) (here (Goes next size) e) ∙ rw (inside, drop-drop size at s);
           }
 
-    module _ {cid : ℕ} {made : Record} {size : ℕ} (e : lineAt st (take (length s - at) (drop at s)) ≡ Ends cid made size) where
-      told-block : steps.EndsHere st (drop at s) cid made size
-      told-block = steps.told st (drop at s) (Ends cid made size) (here (Ends cid made size) e)
-
-      pub last-size : (1 ≤ size) × (size ≤ 20)
-      last-size = (told-block .some, told-block .few)
-
+      -- the last line of a block
       pub block :
-          {next : State} {number : ℕ}
-          → next ≡ afterBlock cid
-          → number ≡ packed made
-          → Going s (set places cid number) next (at + size) (done + 1) (blocks + 1)
-      block {next} {number} is packs =
-          let some : 1 ≤ size = told-block .some in
+          {number : ℕ}
+          → row (next .kind) .begins ≡ true
+          → number ≡ packed (next .made)
+          → Going s (set places (next .cid) number) next (at + size) (done + 1) (blocks + 1)
+      block {number} ended packs =
+          let sized = line-size in
           let past : done ≤ at = going .lines in
           let fewer : blocks ≤ done = going .counted in
-          let entry : Entry = record { cid = cid; made = made } in
+          let entry : Entry = record { cid = next .cid; made = next .made } in
           record {
             found = going .found ++ entry ∷ [];
             many = length-append (going .found) (entry ∷ []) ∙ ap (λ (n : ℕ). n + 1) (going .many);
@@ -194,9 +152,9 @@ module _ {s places : List ℕ} {st : State} {at done blocks : ℕ} (going : Goin
             within = omega arith;
             counted = omega arith;
             reads =
-                on (Ends cid made size) (here (Ends cid made size) e)
-                ∙ rw (drop-drop size at s, is)
-                (behind-more (going .found) entry (walk (mostOctets + 1 - (done + 1)) (afterBlock cid) (done + 1) (drop (at + size) s)));
+                on (Goes next size) (here (Goes next size) e)
+                ∙ rw (ended, drop-drop size at s)
+                (behind-more (going .found) entry (walk (mostOctets + 1 - (done + 1)) next (done + 1) (drop (at + size) s)));
           }
 
     pub stops : {number : ℕ} → lineAt st (take (length s - at) (drop at s)) ≡ Stops number → reading s ≡ refused number (done + 1)

@@ -8,13 +8,12 @@ use borrow.Author.Tests.{lt-ltb, le-ltb, eq-eqb, ne-eqb}
 use lib.Dec.{ltb, eqb}
 use lib.ListN.{length, getD, take, drop, length-drop}
 use lib.Seq.{take-all}
-use Rattle.provisioning.specs.declared.value.Number.{Number}
-use Rattle.provisioning.specs.declared.value.Number.the-variants.{Whole, Malformed}
+use Rattle.provisioning.specs.declared.value.Value.{Value}
+use Rattle.provisioning.specs.declared.value.Value.the-variants.{Whole, Malformed}
 use Rattle.record.specs.declared.syntax.Syntax.{Syntax}
-use Rattle.provisioning.specs.declared.value.Word.the-variants.{Known, Unknown, Endless}
-use Rattle.record.specs.Record.{word}
+use Rattle.record.specs.Record.{word, place}
 use Rattle.octets.specs.Text.{starts, hasLf}
-use Rattle.provisioning.specs.Value.{digitOf, secondDigit, thirdDigit, numberBy, numberOf, further, numberLine, wordAmong}
+use Rattle.provisioning.specs.Value.{digitOf, secondDigit, thirdDigit, numberBy, numberOf, further, valueLine, wordAmong}
 
 -- a number is told by its octets
 pub number-same : {p q r t p' q' r' t' : ℕ} → p ≡ p' → q ≡ q' → r ≡ r' → t ≡ t' → numberBy p q r t ≡ numberBy p' q' r' t'
@@ -73,21 +72,23 @@ module _ (s : List ℕ) {p a : ℕ} (ep : p ≡ getD s 0 0) (ea : a ≡ digitOf 
 pub rest-is : (s : List ℕ) (n : ℕ) → take (length s - n) (drop n s) ≡ drop n s
 rest-is s n = take-all (length s - n) (drop n s) (omega (arith, length-drop n s))
 
-module _ (key s : List ℕ) where
-  pub no-key : starts s key ≡ false → numberLine key s ≡ Malformed
-  unfolding numberLine
+-- a key, then a value
+module _ (key : List ℕ) (read : List ℕ → Value) (s : List ℕ) where
+  pub no-key : starts s key ≡ false → valueLine key read s ≡ Malformed
+  unfolding valueLine
   no-key e = simp e
 
   pub after-key :
       starts s key ≡ true
-      → (n : Number)
-      → numberOf (take (length s - length key) (drop (length key) s)) ≡ n
-      → numberLine key s ≡ further (length key) n
-  unfolding numberLine
-  after-key e n h = simp (e, ← h, rest-is s (length key))
+      → (v : Value)
+      → read (take (length s - length key) (drop (length key) s)) ≡ v
+      → valueLine key read s ≡ further (length key) v
+  unfolding valueLine
+  after-key e v h = simp (e, ← h, rest-is s (length key))
 
+-- words, one after the other
 module _ (s : List ℕ) (x : Syntax) (xs : List Syntax) where
-  pub is-word : starts s (word x ++ 10 ∷ []) ≡ true → wordAmong (x ∷ xs) s ≡ Known x (length (word x ++ 10 ∷ []))
+  pub is-word : starts s (word x ++ 10 ∷ []) ≡ true → wordAmong (x ∷ xs) s ≡ Whole (place x) (length (word x ++ 10 ∷ []))
   unfolding wordAmong
   is-word e = simp e
 
@@ -96,10 +97,10 @@ module _ (s : List ℕ) (x : Syntax) (xs : List Syntax) where
   not-word e = simp e
 
 module _ (s : List ℕ) where
-  pub unknown : hasLf s ≡ true → wordAmong [] s ≡ Unknown
+  pub unknown : hasLf s ≡ true → wordAmong [] s ≡ Whole 0 0
   unfolding wordAmong
   unknown e = simp e
 
-  pub endless : hasLf s ≡ false → wordAmong [] s ≡ Endless
+  pub endless : hasLf s ≡ false → wordAmong [] s ≡ Malformed
   unfolding wordAmong
   endless e = simp e

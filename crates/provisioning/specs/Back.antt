@@ -6,10 +6,11 @@ use lib.Dec.{ltb}
 use Rattle.record.specs.declared.syntax.Record.{Record}
 use Rattle.record.specs.declared.table.Found.{Found}
 use Rattle.record.specs.declared.table.Found.the-variants.{Provisioned, Unprovisioned}
+use Rattle.provisioning.specs.declared.line.Kind.{Kind}
 use Rattle.provisioning.specs.declared.line.Kind.the-variants.{OfCid, OfSyntax, OfM, OfSeq}
 use Rattle.record.specs.Record.{word, foundAt}
 use Rattle.octets.specs.Text.{lf}
-use Rattle.provisioning.specs.Line.{key}
+use Rattle.provisioning.specs.Line.{row}
 
 -- a number below 1,000 in decimal digits, with no leading zero
 unfoldable pub decimal : ℕ → List ℕ
@@ -18,16 +19,19 @@ decimal n =
     (cond (ltb n 100) ((48 + n / 10) ∷ (48 + n % 10) ∷ [])
     ((48 + n / 100) ∷ (48 + n / 10 % 10) ∷ (48 + n % 10) ∷ []))
 
-abbrev pub lineText : List ℕ → List ℕ → List ℕ
-lineText k value = k ++ (value ++ lf ∷ [])
+-- the value of a line of this kind
+abbrev pub valueText : Kind → ℕ → Record → List ℕ
+valueText OfCid cid r = decimal cid
+valueText OfSyntax cid r = word (r .syntax)
+valueText OfM cid r = decimal (r .m)
+valueText OfSeq cid r = decimal (cond (r .seq) 1 0)
+
+abbrev pub lineText : Kind → ℕ → Record → List ℕ
+lineText kind cid r = row kind .key ++ (valueText kind cid r ++ lf ∷ [])
 
 -- the four lines of a block
 unfoldable pub blockText : ℕ → Record → List ℕ
-blockText cid r =
-    lineText (key OfCid) (decimal cid)
-    ++ lineText (key OfSyntax) (word (r .syntax))
-    ++ lineText (key OfM) (decimal (r .m))
-    ++ lineText (key OfSeq) (decimal (cond (r .seq) 1 0))
+blockText cid r = lineText OfCid cid r ++ lineText OfSyntax cid r ++ lineText OfM cid r ++ lineText OfSeq cid r
 
 abbrev pub textOfFound : ℕ → Found → List ℕ
 textOfFound cid (Provisioned r) = blockText cid r

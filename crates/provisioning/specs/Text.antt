@@ -1,20 +1,19 @@
 -- Reading a provisioning text (document 01, "Provisioning text").
 use Prim.Native.Nat.{ℕ, zero, suc, _+_}
 use mathlib.Core.List.{List, [], _∷_}
-use mathlib.Core.Bool.{Bool, true, false, cond}
+use mathlib.Core.Bool.{cond}
 use lib.Dec.{ltb}
 use lib.ListN.{length, drop, set, replicate}
 use Rattle.refusal.specs.Numbers.{lineMalformed, textTooLong}
 use Rattle.record.specs.declared.syntax.Record.{Record}
 use Rattle.provisioning.specs.declared.line.Kind.{Kind}
-use Rattle.provisioning.specs.declared.line.Kind.the-variants.{OfCid, OfSyntax, OfM, OfSeq}
 use Rattle.provisioning.specs.declared.line.State.{State}
 use Rattle.provisioning.specs.declared.line.Step.{Step}
-use Rattle.provisioning.specs.declared.line.Step.the-variants.{Goes, Ends, Stops}
+use Rattle.provisioning.specs.declared.line.Step.the-variants.{Goes, Stops}
 use Rattle.provisioning.specs.declared.text.TextAnswer.{TextAnswer}
 use Rattle.provisioning.specs.declared.text.TextAnswer.the-variants.{Taken, Refused}
 use Rattle.record.specs.Record.{packed}
-use Rattle.provisioning.specs.Line.{afterBlock, lineAt}
+use Rattle.provisioning.specs.Line.{start, row, lineAt}
 
 -- "34: over 8,192 octets."
 abbrev pub mostOctets : ℕ
@@ -35,21 +34,17 @@ abbrev pub before : Entry → Reading → Reading
 before e (refused number line) = refused number line
 before e (taken es) = taken (e ∷ es)
 
--- whether a block is due, and none is begun
-abbrev pub betweenBlocks : Kind → Bool
-betweenBlocks OfCid = true
-betweenBlocks OfSyntax = false
-betweenBlocks OfM = false
-betweenBlocks OfSeq = false
-
 -- "A block cut at the end: 31 at the line after the last."
 abbrev pub atEnd : Kind → ℕ → Reading
-atEnd kind done = cond (betweenBlocks kind) (taken []) (refused lineMalformed (done + 1))
+atEnd kind done = cond (row kind .begins) (taken []) (refused lineMalformed (done + 1))
+
+-- a line, after which `st` is due, before what follows it: a line after which a block is due ends one
+abbrev pub after : State → Reading → Reading
+after st rest = cond (row (st .kind) .begins) (before (record { cid = st .cid; made = st .made }) rest) rest
 
 -- a line after `done` others at the start of s, and what follows it
 abbrev pub onwards : Step → ℕ → List ℕ → (State → List ℕ → Reading) → Reading
-onwards (Goes st size) done s rest = rest st (drop size s)
-onwards (Ends cid made size) done s rest = before (record { cid = cid; made = made }) (rest (afterBlock cid) (drop size s))
+onwards (Goes st size) done s rest = after st (rest st (drop size s))
 onwards (Stops number) done s rest = refused number (done + 1)
 
 -- The lines of s, after `done` others, where `st` is due. Each line has an octet, so that `room`, above the octets, is enough.
@@ -61,7 +56,7 @@ walk (suc room) st done (x ∷ xs) =
 
 -- The reading of a text: its length first, then line by line.
 unfoldable pub reading : List ℕ → Reading
-reading s = cond (ltb mostOctets (length s)) (refused textTooLong 0) (walk (mostOctets + 1) (afterBlock 0) 0 s)
+reading s = cond (ltb mostOctets (length s)) (refused textTooLong 0) (walk (mostOctets + 1) start 0 s)
 
 -- the answer of the code
 abbrev pub answer : Reading → TextAnswer

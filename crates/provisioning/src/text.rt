@@ -1,9 +1,7 @@
 // Reading a provisioning text into the table (document 01, "Provisioning text").
-use crate::block::Block;
-use crate::line::Kind;
 use crate::line::Step;
 ghost use mathlib.Core.Path.{_≡_};
-ghost use Rattle.provisioning.specs.Text.{betweenBlocks, reading, answer, tableAfter};
+ghost use Rattle.provisioning.specs.Text.{reading, answer, tableAfter};
 
 const MOST_OCTETS: usize = 8192;
 
@@ -12,18 +10,6 @@ pub enum TextAnswer {
     Taken(usize),
     // The refusal number, and the line from 1, or 0 for the whole text.
     Refused { number: u8, line: usize },
-}
-
-// Whether a block is due, and none is begun.
-fn between_blocks(kind: Kind) -> bool
-    ensures { λ r. ⌜ r ≡ betweenBlocks kind ⌝ }
-{
-    match kind {
-        Kind::OfCid => true,
-        Kind::OfSyntax => false,
-        Kind::OfM => false,
-        Kind::OfSeq => false,
-    }
 }
 
 // Reads a whole text. The table is written where the text is taken, and is left as it was where it is refused.
@@ -38,41 +24,23 @@ pub fn read_text(text: &[u8], table: &mut [u16; 256]) -> TextAnswer
         };
     }
     let mut places = [0u16; 256];
-    let mut before: u8 = 0;
+    let mut state = crate::line::start();
     let mut at: usize = 0;
+    let mut done: usize = 0;
     let mut blocks: usize = 0;
-    // Blocks are read in one go up to the first that is not told so; from there on line by line.
-    loop {
-        match crate::block::block_at(text, at, before) {
-            Block::Complete { cid, made, end } => {
-                places[cid as usize] = record::table::pack(made);
-                before = cid;
-                at = end;
-                blocks += 1;
-                continue;
-            }
-            Block::Untold => {
-                break;
-            }
-        }
-    }
-    let mut state = crate::line::fresh(before);
-    let mut done: usize = blocks * 4;
     while at < text.len() {
         match crate::line::line_at(&text[at..], state) {
             Step::Goes { state: next, size } => {
                 state = next;
                 at += size;
                 done += 1;
-                continue;
-            }
-            Step::Ends { cid, made, size } => {
-                places[cid as usize] = record::table::pack(made);
-                state = crate::line::fresh(cid);
-                at += size;
-                done += 1;
-                blocks += 1;
-                continue;
+                let kind = next.kind;
+                if crate::line::begins(kind) {
+                    // The last line of a block.
+                    let made = next.made;
+                    places[next.cid as usize] = record::table::pack(made);
+                    blocks += 1;
+                }
             }
             Step::Stops(number) => {
                 let line = done + 1;
@@ -81,7 +49,7 @@ pub fn read_text(text: &[u8], table: &mut [u16; 256]) -> TextAnswer
         }
     }
     let kind = state.kind;
-    if between_blocks(kind) {
+    if crate::line::begins(kind) {
         *table = places;
         return TextAnswer::Taken(blocks);
     }

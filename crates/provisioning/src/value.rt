@@ -1,21 +1,15 @@
 // The values of the lines of a provisioning text: a number or a syntax word, each ended by LF (document 01, "Provisioning text").
 use record::syntax::Syntax;
 ghost use mathlib.Core.Path.{_≡_};
-ghost use Rattle.provisioning.specs.Value.{digitOf, numberBy, numberOf, numberLine, wordOf};
+ghost use Rattle.provisioning.specs.Value.{digitOf, numberBy, numberOf, wordOf};
+ghost use Rattle.record.specs.Record.{place};
 
-// A number, and how many octets it takes with what stands before it and the LF.
-pub enum Number {
+// What stands behind a key.
+pub enum Value {
+    // A number; or the place of a syntax word in document 01's list, 0 for any other word. `size` counts the octets with the LF.
     Whole { value: u16, size: usize },
+    // A malformed number, or no LF comes.
     Malformed,
-}
-
-// A syntax, and the octets of its word with the LF.
-pub enum Word {
-    Known { syntax: Syntax, size: usize },
-    // An LF comes, after something that is no syntax word.
-    Unknown,
-    // No LF comes.
-    Endless,
 }
 
 // The value of a digit, and 10 of any other octet.
@@ -32,42 +26,42 @@ fn digit_of(octet: u8) -> u16
 }
 
 // The number that four octets start with: one to three digits, no leading zero, then LF.
-pub(crate) fn number_by(first: u8, second: u8, third: u8, fourth: u8) -> Number
+fn number_by(first: u8, second: u8, third: u8, fourth: u8) -> Value
     ensures { λ r. ⌜ r ≡ numberBy first second third fourth ⌝ }
 {
     let a = digit_of(first);
     if 9 < a {
-        return Number::Malformed;
+        return Value::Malformed;
     }
     if second == octets::text::LF {
-        return Number::Whole { value: a, size: 2 };
+        return Value::Whole { value: a, size: 2 };
     }
     if a == 0 {
-        return Number::Malformed;
+        return Value::Malformed;
     }
     let b = digit_of(second);
     if 9 < b {
-        return Number::Malformed;
+        return Value::Malformed;
     }
     let ab = a * 10 + b;
     if third == octets::text::LF {
-        return Number::Whole { value: ab, size: 3 };
+        return Value::Whole { value: ab, size: 3 };
     }
     let c = digit_of(third);
     if 9 < c {
-        return Number::Malformed;
+        return Value::Malformed;
     }
     if fourth == octets::text::LF {
-        return Number::Whole {
+        return Value::Whole {
             value: ab * 10 + c,
             size: 4,
         };
     }
-    Number::Malformed
+    Value::Malformed
 }
 
 // The number that a text starts with.
-fn number_of(s: &[u8]) -> Number
+pub(crate) fn number_of(s: &[u8]) -> Value
     ensures { λ r. ⌜ r ≡ numberOf (now (s .entry)) ⌝ }
 {
     number_by(
@@ -78,75 +72,44 @@ fn number_of(s: &[u8]) -> Number
     )
 }
 
-// A key, then a number.
-pub(crate) fn number_line(s: &[u8], key: &[u8]) -> Number
-    ensures { λ r. ⌜ r ≡ numberLine (now (key .entry)) (now (s .entry)) ⌝ }
+// The word of a syntax, with its LF.
+fn known(syntax: Syntax, size: usize) -> Value
+    ensures { λ r. ⌜ r ≡ Value.Whole (place syntax) size ⌝ }
 {
-    if octets::text::starts(s, key) {
-        let n = key.len();
-        match number_of(&s[n..]) {
-            Number::Whole { value, size } => {
-                return Number::Whole {
-                    value,
-                    size: n + size,
-                };
-            }
-            Number::Malformed => {
-                return Number::Malformed;
-            }
-        }
+    Value::Whole {
+        value: record::syntax::place_of(syntax),
+        size,
     }
-    Number::Malformed
 }
 
 // The syntax word that a text starts with.
-pub(crate) fn word_of(s: &[u8]) -> Word
+pub(crate) fn word_of(s: &[u8]) -> Value
     ensures { λ r. ⌜ r ≡ wordOf (now (s .entry)) ⌝ }
 {
     if octets::text::starts(s, b"acelp\n") {
-        return Word::Known {
-            syntax: Syntax::Acelp,
-            size: 6,
-        };
+        return known(Syntax::Acelp, 6);
     }
     if octets::text::starts(s, b"pcm\n") {
-        return Word::Known {
-            syntax: Syntax::Pcm,
-            size: 4,
-        };
+        return known(Syntax::Pcm, 4);
     }
     if octets::text::starts(s, b"g727\n") {
-        return Word::Known {
-            syntax: Syntax::G727,
-            size: 5,
-        };
+        return known(Syntax::G727, 5);
     }
     if octets::text::starts(s, b"g728\n") {
-        return Word::Known {
-            syntax: Syntax::G728,
-            size: 5,
-        };
+        return known(Syntax::G728, 5);
     }
     if octets::text::starts(s, b"g7231\n") {
-        return Word::Known {
-            syntax: Syntax::G7231,
-            size: 6,
-        };
+        return known(Syntax::G7231, 6);
     }
     if octets::text::starts(s, b"data\n") {
-        return Word::Known {
-            syntax: Syntax::Data,
-            size: 5,
-        };
+        return known(Syntax::Data, 5);
     }
     if octets::text::starts(s, b"fax\n") {
-        return Word::Known {
-            syntax: Syntax::Fax,
-            size: 4,
-        };
+        return known(Syntax::Fax, 4);
     }
+    // Any other word.
     if octets::text::has_lf(s) {
-        return Word::Unknown;
+        return Value::Whole { value: 0, size: 0 };
     }
-    Word::Endless
+    Value::Malformed
 }

@@ -1,9 +1,10 @@
 -- Syntaxes, what m and seq each may have, and the numbers of the provisioning table (document 01, "Provisioning text").
 use Prim.Native.Nat.{ℕ, _+_, _*_, _/_, _%_}
-use mathlib.Core.List.{List, [], _∷_}
-use mathlib.Core.Bool.{Bool, true, false, cond, not}
-use lib.Dec.{ltb, eqb}
+use mathlib.Core.List.{List}
+use mathlib.Core.Bool.{Bool, true, cond, not, _&&_}
+use lib.Dec.{ltb, leb, eqb}
 use lib.ListN.{getD}
+use Rattle.octets.specs.Text.{ascii}
 use Rattle.record.specs.declared.syntax.Syntax.{Syntax}
 use Rattle.record.specs.declared.syntax.Syntax.the-variants.{Acelp, Pcm, G727, G728, G7231, Data, Fax}
 use Rattle.record.specs.declared.syntax.Record.{Record}
@@ -12,13 +13,13 @@ use Rattle.record.specs.declared.table.Found.the-variants.{Provisioned, 
 
 -- "Syntax words: acelp, pcm, g727, g728, g7231, data, fax."
 abbrev pub word : Syntax → List ℕ
-word Acelp = 97 ∷ 99 ∷ 101 ∷ 108 ∷ 112 ∷ []
-word Pcm = 112 ∷ 99 ∷ 109 ∷ []
-word G727 = 103 ∷ 55 ∷ 50 ∷ 55 ∷ []
-word G728 = 103 ∷ 55 ∷ 50 ∷ 56 ∷ []
-word G7231 = 103 ∷ 55 ∷ 50 ∷ 51 ∷ 49 ∷ []
-word Data = 100 ∷ 97 ∷ 116 ∷ 97 ∷ []
-word Fax = 102 ∷ 97 ∷ 120 ∷ []
+word Acelp = ascii "acelp"
+word Pcm = ascii "pcm"
+word G727 = ascii "g727"
+word G728 = ascii "g728"
+word G7231 = ascii "g7231"
+word Data = ascii "data"
+word Fax = ascii "fax"
 
 -- "m is 1 to 6 for acelp, 1 to 12 for pcm, g727, g728, else 1."
 abbrev pub mostM : Syntax → ℕ
@@ -29,6 +30,9 @@ mostM G728 = 12
 mostM G7231 = 1
 mostM Data = 1
 mostM Fax = 1
+
+abbrev pub mListed : Syntax → ℕ → Bool
+mListed syntax m = leb 1 m && leb m (mostM syntax)
 
 -- "seq is 0 or 1 for acelp, g728, g7231; 1 for pcm, g727; 0 for data, fax."
 abbrev pub seqListed : Syntax → Bool → Bool
@@ -42,8 +46,7 @@ seqListed Fax seq = not seq
 
 -- a record whose m and seq are listed for its syntax
 abbrev pub legal : Record → Bool
-legal r =
-    cond (eqb (r .m) 0) false (cond (ltb (mostM (r .syntax)) (r .m)) false (seqListed (r .syntax) (r .seq)))
+legal r = mListed (r .syntax) (r .m) && seqListed (r .syntax) (r .seq)
 
 -- the place of a syntax in the list of words, from 1
 abbrev pub place : Syntax → ℕ
@@ -65,19 +68,22 @@ syntaxAt at =
     (cond (eqb at 5) G7231
     (cond (eqb at 6) Data Fax)))))
 
--- A legal record as a number of the table.
+-- A record as a number of the table. That of a legal one has its syntax above bit 5, m in bits 5 to 2 and seq in bit 1.
 unfoldable pub packed : Record → ℕ
 packed r = place (r .syntax) * 32 + r .m * 2 + cond (r .seq) 1 0
 
+-- the record of this syntax whose m and seq a number packs
+abbrev pub withPair : Syntax → ℕ → Record
+withPair syntax n = record { syntax = syntax; m = n / 2 % 16; seq = eqb (n % 2) 1 }
+
 -- the record whose number this could be
 abbrev pub unpacked : ℕ → Record
-unpacked n = record { syntax = syntaxAt (n / 32); m = n / 2 % 16; seq = eqb (n % 2) 1 }
+unpacked n = withPair (syntaxAt (n / 32)) n
 
 -- What a number of the table means: the legal record whose number it is, and no record where it is that of none.
 unfoldable pub meaning : ℕ → Found
 meaning n =
-    cond (eqb (n / 32) 0) Unprovisioned
-    (cond (ltb 7 (n / 32)) Unprovisioned (cond (legal (unpacked n)) (Provisioned (unpacked n)) Unprovisioned))
+    cond (eqb (packed (unpacked n)) n && legal (unpacked n)) (Provisioned (unpacked n)) Unprovisioned
 
 -- What is provisioned on a CID: CIDs are 4 to 255.
 unfoldable pub foundAt : List ℕ → ℕ → Found

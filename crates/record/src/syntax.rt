@@ -1,7 +1,8 @@
 // A provisioned syntax with its m and seq, and which of them are listed (document 01, "Provisioning text").
 ghost use mathlib.Core.Path.{_≡_};
-ghost use mathlib.Core.Bool.{true, false};
-ghost use Rattle.record.specs.Record.{mostM, seqListed, place, syntaxAt};
+ghost use Prim.Native.Nat.{ℕ, _/_, _%_, _^_};
+ghost use lib.Dec.{eqb};
+ghost use Rattle.record.specs.Record.{mListed, seqListed, legal, withPair, place, syntaxAt};
 
 pub enum Syntax {
     Acelp,
@@ -19,59 +20,54 @@ pub struct Record {
     pub seq: bool,
 }
 
-// The largest m of a syntax; the smallest is 1.
-pub fn most_m(syntax: Syntax) -> u8
-    ensures { λ r. ⌜ r ≡ mostM syntax ⌝ }
+// The m and seq that a syntax may have, as a mask: bit 2 × m + seq + 1, counted from 1, is set where they are listed.
+fn pairs(syntax: Syntax) -> u32
+    ensures { λ r. ⌜ ((n : ℕ) → eqb (r / 2 ^ (n % 32) % 2) 1 ≡ legal (withPair syntax n)) ⌝ }
 {
     match syntax {
-        Syntax::Acelp => 6,
-        Syntax::Pcm => 12,
-        Syntax::G727 => 12,
-        Syntax::G728 => 12,
-        Syntax::G7231 => 1,
-        Syntax::Data => 1,
-        Syntax::Fax => 1,
+        // m 1 to 6, seq 0 or 1
+        Syntax::Acelp => 0x3ffc,
+        // m 1 to 12, seq 1
+        Syntax::Pcm => 0x2aaaaa8,
+        Syntax::G727 => 0x2aaaaa8,
+        // m 1 to 12, seq 0 or 1
+        Syntax::G728 => 0x3fffffc,
+        // m 1, seq 0 or 1
+        Syntax::G7231 => 0xc,
+        // m 1, seq 0
+        Syntax::Data => 0x4,
+        Syntax::Fax => 0x4,
     }
 }
 
-// Whether a syntax may have seq 1.
-fn one_listed(syntax: Syntax) -> bool
-    ensures { λ r. ⌜ r ≡ seqListed syntax true ⌝ }
+// Whether a syntax may have the m and seq that a number packs in its low five bits.
+pub(crate) fn pair_listed(syntax: Syntax, number: u16) -> bool
+    ensures { λ r. ⌜ r ≡ legal (withPair syntax number) ⌝ }
 {
-    match syntax {
-        Syntax::Acelp => true,
-        Syntax::Pcm => true,
-        Syntax::G727 => true,
-        Syntax::G728 => true,
-        Syntax::G7231 => true,
-        Syntax::Data => false,
-        Syntax::Fax => false,
-    }
+    (pairs(syntax) >> (number % 32)) % 2 == 1
 }
 
-// Whether a syntax may have seq 0.
-fn zero_listed(syntax: Syntax) -> bool
-    ensures { λ r. ⌜ r ≡ seqListed syntax false ⌝ }
+// Whether a syntax may have this m, with one seq or the other.
+pub fn m_listed(syntax: Syntax, m: u16) -> bool
+    ensures { λ r. ⌜ r ≡ mListed syntax m ⌝ }
 {
-    match syntax {
-        Syntax::Acelp => true,
-        Syntax::Pcm => false,
-        Syntax::G727 => false,
-        Syntax::G728 => true,
-        Syntax::G7231 => true,
-        Syntax::Data => true,
-        Syntax::Fax => true,
+    if 15 < m {
+        return false;
     }
+    if pair_listed(syntax, m * 2) {
+        return true;
+    }
+    pair_listed(syntax, m * 2 + 1)
 }
 
-// Whether a syntax may have this seq.
+// Whether a syntax may have this seq. Every syntax may have m 1, so the pair of m 1 tells.
 pub fn seq_listed(syntax: Syntax, seq: bool) -> bool
     ensures { λ r. ⌜ r ≡ seqListed syntax seq ⌝ }
 {
     if seq {
-        return one_listed(syntax);
+        return pair_listed(syntax, 3);
     }
-    zero_listed(syntax)
+    pair_listed(syntax, 2)
 }
 
 // The place of a syntax in document 01's list, from 1.
@@ -93,23 +89,13 @@ pub fn place_of(syntax: Syntax) -> u16
 pub fn syntax_at(at: u16) -> Syntax
     ensures { λ r. ⌜ r ≡ syntaxAt at ⌝ }
 {
-    if at == 1 {
-        return Syntax::Acelp;
+    match at {
+        1 => Syntax::Acelp,
+        2 => Syntax::Pcm,
+        3 => Syntax::G727,
+        4 => Syntax::G728,
+        5 => Syntax::G7231,
+        6 => Syntax::Data,
+        _ => Syntax::Fax,
     }
-    if at == 2 {
-        return Syntax::Pcm;
-    }
-    if at == 3 {
-        return Syntax::G727;
-    }
-    if at == 4 {
-        return Syntax::G728;
-    }
-    if at == 5 {
-        return Syntax::G7231;
-    }
-    if at == 6 {
-        return Syntax::Data;
-    }
-    Syntax::Fax
 }

@@ -16,7 +16,7 @@ fn bit(set: bool) -> u16
     if set { 1 } else { 0 }
 }
 
-// A legal record as a number of the table: the syntax above bit 4, m in bits 4 to 1, seq in bit 0.
+// A record as a number of the table. That of a legal one has its syntax above bit 5, m in bits 5 to 2 and seq in bit 1.
 pub fn pack(given: Record) -> u16
     ensures { λ r. ⌜ r ≡ packed given ⌝ }
 {
@@ -26,7 +26,7 @@ pub fn pack(given: Record) -> u16
 }
 
 // What a number of the table means: every number has a meaning.
-pub fn meaning(number: u16) -> Found
+pub(crate) fn meaning(number: u16) -> Found
     ensures { λ r. ⌜ r ≡ meaning number ⌝ }
 {
     let at = number / 32;
@@ -37,15 +37,9 @@ pub fn meaning(number: u16) -> Found
         return Found::Unprovisioned;
     }
     let syntax = crate::syntax::syntax_at(at);
-    let m = (number / 2 % 16) as u8;
-    let seq = number % 2 == 1;
-    if m == 0 {
-        return Found::Unprovisioned;
-    }
-    if crate::syntax::most_m(syntax) < m {
-        return Found::Unprovisioned;
-    }
-    if crate::syntax::seq_listed(syntax, seq) {
+    if crate::syntax::pair_listed(syntax, number) {
+        let m = (number / 2 % 16) as u8;
+        let seq = number % 2 == 1;
         return Found::Provisioned(Record { syntax, m, seq });
     }
     Found::Unprovisioned

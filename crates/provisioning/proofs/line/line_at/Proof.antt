@@ -1,68 +1,73 @@
--- `provisioning::line::line_at` meets its contract.
-use mathlib.Core.Path.{sym, _∙_}
-use Rattle.provisioning.specs.declared.line.Kind.the-variants.{OfCid, OfSyntax, OfM, OfSeq}
+-- `provisioning::line::line_at` meets its contract: at each return the tests that led there say which case holds.
+use mathlib.Core.Path.{sym, ap, _∙_}
+use native.Mathlib.Omega.{arith}
+use Rattle.provisioning.specs.declared.line.State.{State}
+use Rattle.provisioning.specs.declared.line.Step.the-variants.{Goes}
 use Rattle.provisioning.proofs.Lines as lines
 use borrow.Author.Needs.{needs}
 use Rattle.provisioning.proofs.line.line_at.Statement.{statement}
 use Rattle.provisioning.proofs.line.line_at.Tie as tie
 
+value-at-requires : tie.Need-value-at-requires
+value-at-requires c κs = search needs
+
 enum-told : tie.Need-enum-told
 enum-told c = search needs
 
-cid-line-requires : tie.Need-cid-line-requires
-cid-line-requires c κs = search needs
+enum-known-value : tie.Need-enum-known-value
+enum-known-value c = search needs
 
-enum-told-2 : tie.Need-enum-told-2
-enum-told-2 c = search needs
+listed-requires : tie.Need-listed-requires
+listed-requires c κs = search needs
 
-syntax-line-requires : tie.Need-syntax-line-requires
-syntax-line-requires c κs = search needs
+cast-octet : tie.Need-cast-octet
+cast-octet c =
+    let st = c .before .before .before .before .before .before .before .before .args .state in
+    omega (arith, lines.listed-small (st .kind) (st .made) (c .before .before .before .value .given .0 .0) (sym (c .before .listed .ensures) ∙ c .if1 .taken))
 
-enum-told-3 : tie.Need-enum-told-3
-enum-told-3 c = search needs
-
-m-line-requires : tie.Need-m-line-requires
-m-line-requires c κs = search needs
-
-enum-told-4 : tie.Need-enum-told-4
-enum-told-4 c = search needs
-
-seq-line-requires : tie.Need-seq-line-requires
-seq-line-requires c κs = search needs
+not-above-requires : tie.Need-not-above-requires
+not-above-requires c κs = search needs
 
 returns : tie.Need-returns
 returns c =
-    let a = c .before .before .before .before .args in c .cid-line .ensures ∙ sym (lines.kind-is (a .state) (a .s .now) OfCid
-    (c .before .enum-told .given .1))
+    sym
+    (lines.not-above (c .before .before .before .before .before .before .before .before .before .before .args .state) (sym (c .before .before .before .before .before .before .before .value-at .ensures) ∙ c .before .before .before .before .before .value .given .1)
+    (sym (c .before .before .before .listed .ensures) ∙ c .before .before .if1 .taken)
+    (sym (c .before .not-above .ensures) ∙ c .if2 .taken))
+
+told-requires : tie.Need-told-requires
+told-requires c κs = search needs
 
 returns-2 : tie.Need-returns-2
 returns-2 c =
-    let a = c .before .before .before .before .args in c .syntax-line .ensures ∙ sym (lines.kind-is (a .state) (a .s .now) OfSyntax
-    (c .before .enum-told2 .given .1))
+    ap (λ (next : State). Goes next (c .before .before .before .before .before .before .value .given .0 .1 .0)) (c .told .ensures)
+    ∙ sym
+    (lines.taken (c .before .before .before .before .before .before .before .before .before .before .before .args .state) (sym (c .before .before .before .before .before .before .before .before .value-at .ensures) ∙ c .before .before .before .before .before .before .value .given .1)
+    (sym (c .before .before .before .before .listed .ensures) ∙ c .before .before .before .if1 .taken)
+    (sym (c .before .before .not-above .ensures) ∙ c .before .if2 .left))
 
 returns-3 : tie.Need-returns-3
 returns-3 c =
-    let a = c .before .before .before .before .args in c .m-line .ensures ∙ sym (lines.kind-is (a .state) (a .s .now) OfM
-    (c .before .enum-told3 .given .1))
+    sym (lines.no-value (c .before .before .before .before .before .args .state) (sym (c .before .before .value-at .ensures) ∙ c .enum-told .given .1))
 
 returns-4 : tie.Need-returns-4
 returns-4 c =
-    let a = c .before .before .before .before .args in c .seq-line .ensures ∙ sym (lines.kind-is (a .state) (a .s .now) OfSeq
-    (c .before .enum-told4 .given .1))
+    sym
+    (lines.unlisted (c .before .before .before .before .before .before .before .before .args .state) (sym (c .before .before .before .before .before .value-at .ensures) ∙ c .before .before .before .value .given .1)
+    (sym (c .before .listed .ensures) ∙ c .if1 .left))
 
 pub line-at-spec : {M : Type 1} → statement M
 line-at-spec =
     tie.close
     (tie.spec
+    value-at-requires
     enum-told
-    cid-line-requires
-    enum-told-2
-    syntax-line-requires
-    enum-told-3
-    m-line-requires
-    enum-told-4
-    seq-line-requires
+    enum-known-value
+    listed-requires
+    cast-octet
+    not-above-requires
     returns
+    told-requires
     returns-2
     returns-3
     returns-4)

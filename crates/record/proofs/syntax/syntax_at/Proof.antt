@@ -1,69 +1,46 @@
 -- `record::syntax::syntax_at` meets its contract.
-use borrow.Author.Tests.{eq-eqb, ne-eqb}
+use borrow.Author.Tests.{ne-eqb}
 use Rattle.record.specs.Record.{syntaxAt}
 use Rattle.record.proofs.syntax.syntax_at.Statement.{statement}
 use Rattle.record.proofs.syntax.syntax_at.Tie as tie
 
 returns : tie.Need-returns
 unfolding syntaxAt
-returns c = simp (eq-eqb _ _ (c .if1 .taken))
+returns c = rw (c .match .keys1)
 
 returns-2 : tie.Need-returns-2
 unfolding syntaxAt
-returns-2 c = simp (ne-eqb _ _ (c .before .if1 .left), eq-eqb _ _ (c .if2 .taken))
+returns-2 c = rw (c .match .keys2)
 
 returns-3 : tie.Need-returns-3
 unfolding syntaxAt
-returns-3 c = simp (ne-eqb _ _ (c .before .before .if1 .left), ne-eqb _ _ (c .before .if2 .left), eq-eqb _ _ (c .if3 .taken))
+returns-3 c = rw (c .match .keys3)
 
 returns-4 : tie.Need-returns-4
 unfolding syntaxAt
-returns-4 c =
-    simp (
-      ne-eqb _ _ (c .before .before .before .if1 .left),
-      ne-eqb _ _ (c .before .before .if2 .left),
-      ne-eqb _ _ (c .before .if3 .left),
-      eq-eqb _ _
-          (c .if4 .taken),
-    )
+returns-4 c = rw (c .match .keys4)
 
 returns-5 : tie.Need-returns-5
 unfolding syntaxAt
-returns-5 c =
-    simp (
-      ne-eqb _ _ (c .before .before .before .before .if1 .left),
-      ne-eqb _ _ (c .before .before .before .if2 .left),
-      ne-eqb _ _
-          (c .before .before .if3 .left),
-      ne-eqb _ _ (c .before .if4 .left),
-      eq-eqb _ _ (c .if5 .taken),
-    )
+returns-5 c = rw (c .match .keys5)
 
 returns-6 : tie.Need-returns-6
 unfolding syntaxAt
-returns-6 c =
-    simp (
-      ne-eqb _ _ (c .before .before .before .before .before .if1 .left),
-      ne-eqb _ _ (c .before .before .before .before .if2 .left),
-      ne-eqb _ _
-          (c .before .before .before .if3 .left),
-      ne-eqb _ _ (c .before .before .if4 .left),
-      ne-eqb _ _ (c .before .if5 .left),
-      eq-eqb _ _ (c .if6 .taken),
-    )
+returns-6 c = rw (c .match .keys6)
 
 returns-7 : tie.Need-returns-7
 unfolding syntaxAt
 returns-7 c =
+    let r = c .match .rest in
     simp (
-      ne-eqb _ _ (c .before .before .before .before .before .if1 .left),
-      ne-eqb _ _ (c .before .before .before .before .if2 .left),
-      ne-eqb _ _
-          (c .before .before .before .if3 .left),
-      ne-eqb _ _ (c .before .before .if4 .left),
-      ne-eqb _ _ (c .before .if5 .left),
-      ne-eqb _ _ (c .if6 .left),
+      ne-eqb _ _ (r .0 .0 .0 .0 .0 .1),
+      ne-eqb _ _ (r .0 .0 .0 .0 .1),
+      ne-eqb _ _ (r .0 .0 .0 .1),
+      ne-eqb _ _ (r .0 .0 .1),
+      ne-eqb _ _ (r .0 .1),
+      ne-eqb _ _ (r .1),
     )
 
 pub syntax-at-spec : {M : Type 1} → statement M
-syntax-at-spec = tie.close (tie.spec returns returns-2 returns-3 returns-4 returns-5 returns-6 returns-7)
+syntax-at-spec =
+    tie.close (tie.spec returns returns-2 returns-3 returns-4 returns-5 returns-6 returns-7)

@@ -13,13 +13,13 @@ place-of-requires : tie.Need-place-of-requires
 place-of-requires c κs = search needs
 
 mul-result : tie.Need-mul-result
-mul-result c = omega (arith, c .place-of .ensures, packing.place-small (c .before .before .args .given .syntax))
+mul-result c = omega (arith, c .place-of .ensures, packing.place-range (c .before .before .args .given .syntax))
 
 mul-result-2 : tie.Need-mul-result-2
 mul-result-2 c = search needs
 
 add-result : tie.Need-add-result
-add-result c = omega (arith, c .place-of .ensures, packing.place-small (c .before .before .args .given .syntax))
+add-result c = omega (arith, c .place-of .ensures, packing.place-range (c .before .before .args .given .syntax))
 
 bit-requires : tie.Need-bit-requires
 bit-requires c κs = search needs
@@ -27,7 +27,7 @@ bit-requires c κs = search needs
 add-result-2 : tie.Need-add-result-2
 add-result-2 c =
     let g = c .before .before .before .args .given in
-    omega (arith, c .before .place-of .ensures, packing.place-small (g .syntax), c .bit .ensures, packing.bit-small (g .seq))
+    omega (arith, c .before .place-of .ensures, packing.place-range (g .syntax), c .bit .ensures, packing.bit-small (g .seq))
 
 returns : tie.Need-returns
 unfolding packed
