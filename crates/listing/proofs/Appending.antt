@@ -7,9 +7,10 @@ use native.Mathlib.Numerals.{add-one}
 use lib.ListN.{length, getD, set, take, length-append}
 use lib.Seq.{take-suc, take-all}
 use Rattle.octets.proofs.Writes as writes
-use Rattle.lines.specs.Decimal.{decimal}
-use Rattle.lines.specs.Field.{field, Appended}
-use Rattle.lines.proofs.Keeping as keeping
+use Rattle.listing.specs.Decimal.{decimal}
+use Rattle.listing.specs.Listing.{field}
+use Rattle.listing.specs.Private.{Appended}
+use Rattle.recording.proofs.Keeping as keeping
 
 module _ {before mid text : List ℕ} {at most next : ℕ} (first : Appended before at text most mid next) where
   pub same-length : at + most ≤ length before → length mid ≡ length before

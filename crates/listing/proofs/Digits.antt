@@ -6,9 +6,9 @@ use mathlib.Core.Logic.{⊎-elim}
 use native.Mathlib.Omega.{arith}
 use borrow.Author.Tests.{lt-ltb, le-ltb}
 use Rattle.octets.proofs.Order.{lt-or-le}
-use Rattle.lines.specs.Decimal.{digits}
-use Rattle.lines.specs.Claims.{valueOf, DigitsTell}
-use Rattle.lines.proofs.Spelling.{beyond}
+use Rattle.listing.specs.Decimal.{digits}
+use Rattle.listing.specs.Claims.{valueOf, DigitsTell}
+use Rattle.listing.proofs.Spelling.{beyond}
 
 value-append : (before : ℕ) (xs ys : List ℕ) → valueOf before (xs ++ ys) ≡ valueOf (valueOf before xs) ys
 value-append before [] ys = refl

@@ -11,12 +11,12 @@ use Rattle.frame.specs.Header.{told, headerAt}
 use Rattle.frame.specs.Opening.{scan, scanned, opening}
 use Rattle.payload.specs.Layout.{onVoice, onFax, onData}
 use Rattle.digits.specs.Layout.{judged, digitsRead}
-use Rattle.lines.specs.Decimal.{digits}
-use Rattle.lines.specs.Field.{field}
-use Rattle.lines.specs.Hex.{hexValue, octetThen, decoded}
-use Rattle.lines.specs.Line.{lineRead}
-use Rattle.lines.specs.Listing.{fourFields, subListing, subsListing, refusedListing, openedListing, lineListing, linesListing, listing}
-use Rattle.lines.specs.Pieces.{textFrom, lineSize}
+use Rattle.listing.specs.Decimal.{digits}
+use Rattle.listing.specs.Field.{field}
+use Rattle.recording.specs.Hex.{hexValue, octetThen, decoded}
+use Rattle.recording.specs.Line.{lineRead}
+use Rattle.listing.specs.Listing.{fourFields, subListing, subsListing, refusedListing, openedListing, lineListing, linesListing, listing}
+use Rattle.recording.specs.Pieces.{textFrom, lineSize}
 
 -- cid=5 syntax=acelp m=1 seq=0 frame=c50108000a23070000000006aa
 pub input : List ℕ

@@ -2,24 +2,27 @@
 use Prim.Native.Nat.{ℕ, _+_, _-_, _<_, _≤_}
 use mathlib.Core.Path.{_≡_, refl, sym, ap, subst, _∙_}
 use mathlib.Core.List.{List, [], _∷_, _++_, append-assoc, append-nil}
+use mathlib.Core.Bool.{Bool, true, false}
 use native.Mathlib.Omega.{arith}
 use native.Mathlib.Numerals.{add-one}
-use borrow.Author.Tests.{lt-ltb, le-ltb, eq-eqb, ne-eqb}
+use borrow.Author.Tests.{ltb-false, eq-eqb, ne-eqb}
+use lib.Dec.{ltb}
 use lib.ListN.{length, getD, take, drop}
-use lib.Seq.{take-suc}
+use lib.Seq.{take-suc, take-at}
 use Rattle.refusal.specs.Numbers.{sound, roomTooSmall}
 use Rattle.octets.specs.declared.Put.the-variants.{Written, NotWritten}
-use Rattle.octets.specs.Room.{leftBy}
+use Rattle.octets.specs.Room.{written, leftBy}
+use Rattle.recording.proofs.LineCases.{Fair}
 use Rattle.frame.specs.declared.header.SubFrame.{SubFrame}
-use Rattle.frame.specs.declared.opening.Opened.{Opened}
-use Rattle.frame.specs.Opening.{endOf, opening, answer}
+use Rattle.frame.specs.Opening.{endOf, opening}
 use Rattle.record.specs.declared.table.Found.{Found}
 use Rattle.record.specs.Record.{foundAt}
 use Rattle.payload.specs.Content.{payloadRead, numberOf}
-use Rattle.lines.specs.Field.{frameKey, subsKey, field, Appended}
-use Rattle.lines.specs.Hex.{octets, refused}
-use Rattle.lines.specs.Line.{lineRead}
-use Rattle.lines.specs.Listing.{fourFields, numberFor, subListing, subsListing, refusedListing, openedListing, frameListing, readListing, lineListing, listed}
+use Rattle.octets.specs.Text.{ascii}
+use Rattle.recording.specs.declared.line.Read.{Read}
+use Rattle.recording.specs.Line.{Held, octets, refused, lineRead, readOf, octetsOf}
+use Rattle.listing.specs.Listing.{fourFields, numberFor, subListing, subsListing, refusedListing, openedListing, frameListing, readListing, lineListing, field, listed}
+use Rattle.listing.specs.Private.{Appended, listingOf}
 
 -- a sub-frame, by the refusal number that its payload gets
 module _ {before after : List ℕ} {at next : ℕ} where
@@ -55,52 +58,48 @@ subs-more table s subs i d h =
     ∙ ap (subsListing table s) (sym next)
 
 -- room for a listing, or not
-module _ (out text : List ℕ) (at : ℕ) where
-  small : length out < at + 6709 → NotWritten roomTooSmall ≡ listed out at text
+module _ (out text : List ℕ) (at : ℕ) {short : Bool} (tells : short ≡ ltb (length out) (at + 6709)) where
+  pub no-room : short ≡ true → (NotWritten roomTooSmall ≡ listed out at text) × (out ≡ leftBy (NotWritten roomTooSmall) out at text)
   unfolding listed
-  small h = simp (lt-ltb (length out) (at + 6709) h)
+  no-room h = (simp (sym tells ∙ h), refl)
 
-  pub no-room : length out < 6709 → (NotWritten roomTooSmall ≡ listed out at text) × (out ≡ leftBy (NotWritten roomTooSmall) out at text)
-  no-room h = (small (omega arith), refl)
+  pub room : short ≡ false → at + 6709 ≤ length out
+  room h = ltb-false (length out) (at + 6709) (sym tells ∙ h)
 
-  module _ (some : 6709 ≤ length out) where
-    pub too-far : length out - 6709 < at → (NotWritten roomTooSmall ≡ listed out at text) × (out ≡ leftBy (NotWritten roomTooSmall) out at text)
-    too-far h = (small (omega arith), refl)
+  pub stands :
+      short ≡ false
+      → {after : List ℕ} {most next : ℕ}
+      → Appended out at text most after next
+      → (Written next ≡ listed out at text) × (after ≡ leftBy (Written next) out at text)
+  unfolding listed
+  stands h p = (simp (sym tells ∙ h) (ap Written (p .ends)), p .holds)
 
-    pub stands :
-        {after : List ℕ} {most next : ℕ}
-        → at ≤ length out - 6709
-        → Appended out at text most after next
-        → (Written next ≡ listed out at text) × (after ≡ leftBy (Written next) out at text)
-    unfolding listed
-    stands {after} {most} {next} h p =
-        let room : at + 6709 ≤ length out = omega arith in
-        (simp (le-ltb (length out) (at + 6709) room) (ap Written (p .ends)), p .holds)
-
--- a line's listing, by what was read
-module _ (n : ℕ) (table line : List ℕ) where
-  pub of-octets : (s : List ℕ) → lineRead line ≡ octets s → frameListing n table s ≡ lineListing n table line
-  unfolding lineListing
-  of-octets s e = ap (readListing n table) (sym e)
-
-  pub of-refusal : (number : ℕ) → lineRead line ≡ refused number → refusedListing n number 0 ≡ lineListing n table line
-  unfolding lineListing
-  of-refusal number e = ap (readListing n table) (sym e)
-
--- a frame's listing, by what opening it answers
-module _ (n : ℕ) (table s : List ℕ) (o : Opened) (is : o ≡ answer (opening s)) where
+-- a frame's listing, by what checking it tells
+module _ (n : ℕ) (table s : List ℕ) {number at count : ℕ} (tells : number ≡ opening s .number) where
   pub of-sound :
-      o .number ≡ sound
-      → field frameKey n ++ field subsKey (o .count) ++ subsListing table s (opening s .subs) ≡ frameListing n table s
+      count ≡ length (opening s .subs)
+      → number ≡ sound
+      → field (ascii "frame=") n ++ field (ascii "subs=") count ++ subsListing table s (opening s .subs) ≡ frameListing n table s
   unfolding openedListing
-  of-sound h =
-      let number : opening s .number ≡ sound = sym (ap (λ (x : Opened). x .number) is) ∙ h in
-      let count : o .count ≡ length (opening s .subs) = ap (λ (x : Opened). x .count) is in
-      rw count (simp (eq-eqb (opening s .number) sound number))
+  of-sound c h = rw c (simp (eq-eqb (opening s .number) sound (sym tells ∙ h)))
 
-  pub of-refused : (o .number ≡ sound → ⊥) → refusedListing n (o .number) (o .at) ≡ frameListing n table s
+  pub of-refused : at ≡ opening s .at → (number ≡ sound → ⊥) → refusedListing n number at ≡ frameListing n table s
   unfolding openedListing
-  of-refused h =
-      let number : o .number ≡ opening s .number = ap (λ (x : Opened). x .number) is in
-      let place : o .at ≡ opening s .at = ap (λ (x : Opened). x .at) is in
-      rw (number, place) (simp (ne-eqb (opening s .number) sound (λ z. h (number ∙ z))))
+  of-refused a h = rw (tells, a) (simp (ne-eqb (opening s .number) sound (λ z. h (tells ∙ z))))
+
+-- a line's listing, by what reading it answers
+module _ (n : ℕ) (table : List ℕ) (read : Read) (frame : List ℕ) where
+  pub by-sound : read .number ≡ sound → frameListing n table (take (read .octets) frame) ≡ listingOf n table read frame
+  by-sound h = simp (eq-eqb (read .number) sound h)
+
+  pub by-refused : (read .number ≡ sound → ⊥) → refusedListing n (read .number) 0 ≡ listingOf n table read frame
+  by-refused h = simp (ne-eqb (read .number) sound h)
+
+-- what stands at the start of the room is what the line holds
+pub of-held :
+    (n : ℕ) (table frame : List ℕ) (held : Held)
+    → Fair held
+    → listingOf n table (readOf held) (written frame 0 (octetsOf held)) ≡ readListing n table held
+of-held n table frame (octets s) fair =
+    ap (frameListing n table) (take-at s (drop (0 + length s) frame) (length s) refl)
+of-held n table frame (refused number) fair = simp (ne-eqb number sound fair)

@@ -8,7 +8,8 @@ use lib.ListN.{length, length-append}
 use lib.Seq.{append-snoc}
 use mathlib.Core.Logic.{⊎-elim}
 use Rattle.octets.proofs.Order.{lt-or-le}
-use Rattle.lines.specs.Decimal.{digits, decimal, fourDigits}
+use Rattle.listing.specs.Decimal.{digits, decimal}
+use Rattle.listing.specs.Private.{fourDigits}
 
 last : (room n : ℕ) → n < 10 → digits (suc room) n ≡ (48 + n) ∷ []
 unfolding digits

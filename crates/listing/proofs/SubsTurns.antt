@@ -1,64 +1,77 @@
--- The loop of `put_subs`: after i turns the first i sub-frames stand.
-use Prim.Native.Nat.{ℕ, _+_, _-_, _*_, _<_, _≤_}
-use mathlib.Core.Path.{_≡_, sym, ap, subst, _∙_}
-use mathlib.Core.List.{List, [], _++_}
+-- The loop of `put_subs`: after i turns the first i sub-frames stand, and the next header is at the place.
+use Prim.Native.Nat.{ℕ, suc, _+_, _*_, _<_, _≤_}
+use mathlib.Core.Path.{_≡_, refl, sym, ap, subst, _∙_}
+use mathlib.Core.List.{List, [], _∷_, _++_}
 use native.Mathlib.Omega.{arith}
-use lib.ListN.{length, getD, take, replicate, List·getD-append}
-use lib.Seq.{take-all}
+use native.Mathlib.Numerals.{add-one}
+use lib.ListN.{length, getD, take, drop}
+use lib.Seq.{take-all, drop-cons}
 use Rattle.frame.specs.declared.header.SubFrame.{SubFrame}
-use Rattle.frame.specs.declared.opening.Opened.{Opened}
-use Rattle.frame.specs.Opening.{endOf, opening, answer, unused}
-use Rattle.lines.specs.Field.{Appended}
-use Rattle.lines.specs.Listing.{subListing, subsListing}
-use Rattle.lines.proofs.Appending as appending
-use Rattle.lines.proofs.Inside as inside
-use Rattle.lines.proofs.Keeping as keeping
-use Rattle.lines.proofs.Listings as listings
+use Rattle.frame.specs.declared.header.Header.the-variants.{Sub}
+use Rattle.frame.specs.Header.{headerAt, subAt}
+use Rattle.frame.specs.Opening.{endOf, opening}
+use Rattle.frame.proofs.HeaderInverse as inverse
+use Rattle.listing.specs.Listing.{subListing, subsListing}
+use Rattle.listing.specs.Private.{Appended}
+use Rattle.listing.proofs.Appending as appending
+use Rattle.listing.proofs.Chain as chain
+use Rattle.listing.proofs.Listings as listings
+use Rattle.recording.proofs.Keeping as keeping
 
-pub begins : (table s out : List ℕ) (at : ℕ) → Appended out at (subsListing table s []) 0 out at
+pub record Going (table s out₀ out : List ℕ) (at next place i : ℕ) : Type 0 where
+  pub within : i ≤ length (opening s .subs)
+  pub rest : chain.Chain s place (drop i (opening s .subs))
+  pub stands : Appended out₀ at (subsListing table s (take i (opening s .subs))) (104 * i) out next
+
+pub begins : (table s out : List ℕ) (at : ℕ) → Going table s out out at at 0 0
 unfolding subsListing
-begins table s out at = record { ends = omega arith; holds = sym (keeping.written-none out at); size = omega arith }
+begins table s out at =
+    record {
+      within = omega arith;
+      rest = chain.opening-fine s .chain;
+      stands = record { ends = omega arith; holds = sym (keeping.written-none out at); size = omega arith };
+    }
 
-module _ (table s : List ℕ) (opened : Opened) (is : opened ≡ answer (opening s)) where
-  count-is : opened .count ≡ length (opening s .subs)
-  count-is = ap (λ (o : Opened). o .count) is
+pub few : (s : List ℕ) → length (opening s .subs) ≤ 64
+few s = chain.opening-fine s .few
 
-  pub few : opened .count ≤ 64
-  few = omega (arith, count-is, inside.opening-fine s .few)
+module _ {table s out₀ out : List ℕ} {at next place i : ℕ} (going : Going table s out₀ out at next place i) (room : at + 6656 ≤ length out₀) where
+  pub same-length : length out ≡ length out₀
+  same-length = appending.same-length (going .stands) (omega (arith, few s, going .within))
 
-  module _ (i : ℕ) (more : i < opened .count) where
-    there : i < length (opening s .subs)
-    there = omega (arith, count-is)
+  -- the sub-frame whose header is at the place
+  module _ (sub : SubFrame) (is : sub ≡ subAt s place) (more : i < length (opening s .subs)) where
+    links :
+        (headerAt s place ≡ Sub (getD (opening s .subs) i sub))
+        × ((endOf (getD (opening s .subs) i sub) ≤ length s) × chain.Chain s (endOf (getD (opening s .subs) i sub)) (drop (suc i) (opening s .subs)))
+    links = rw (drop-cons (opening s .subs) i sub more) at (going .rest)
 
-    nth-is : getD (opened .subs) i unused ≡ getD (opening s .subs) i unused
-    nth-is =
-        ap (λ (o : Opened). getD (o .subs) i unused) is
-        ∙ List·getD-append (opening s .subs) (replicate (64 - length (opening s .subs)) unused) unused i there
+    this : sub ≡ getD (opening s .subs) i sub
+    this = is ∙ inverse.sub-at-tells s place (getD (opening s .subs) i sub) (links .0)
 
-    pub within : endOf (getD (opened .subs) i unused) ≤ length s
-    within = rw nth-is (inside.within s unused i there)
+    pub ends : endOf sub ≤ length s
+    ends = omega (arith, ap endOf this, links .1 .0)
 
-  module _ (out₀ out : List ℕ) (at next i : ℕ) (room : at + 6656 ≤ length out₀) (stand : Appended out₀ at (subsListing table s (take i (opening s .subs))) (104 * i) out next) where
-    pub same-length : i ≤ opened .count → length out ≡ length out₀
-    same-length h = appending.same-length stand (omega (arith, few))
-
-    pub room-left : i < opened .count → next + 104 ≤ length out
-    room-left h = omega (arith, few, stand .ends, stand .size, same-length (omega arith))
+    pub room-left : next + 104 ≤ length out
+    room-left = omega (arith, few s, going .stands .ends, going .stands .size, same-length)
 
     pub turn :
-        (after : List ℕ) (then : ℕ)
-        → i < opened .count
-        → Appended out next (subListing table s (getD (opened .subs) i unused)) 104 after then
-        → Appended out₀ at (subsListing table s (take (i + 1) (opening s .subs))) (104 * (i + 1)) after then
-    turn after then more one =
+        {after : List ℕ} {then : ℕ}
+        → Appended out next (subListing table s sub) 104 after then
+        → Going table s out₀ after at then (endOf sub) (i + 1)
+    turn {after} {then} one =
         let text =
-        ap (λ (x : SubFrame). subsListing table s (take i (opening s .subs)) ++ subListing table s x) (nth-is i more)
-        ∙ listings.subs-more table s (opening s .subs) i unused (there i more)
+        ap (λ (x : SubFrame). subsListing table s (take i (opening s .subs)) ++ subListing table s x) this
+        ∙ listings.subs-more table s (opening s .subs) i sub more
         in
-        let both = appending.then stand one (omega (arith, few)) in
-        subst (λ (t : List ℕ). Appended out₀ at t (104 * (i + 1)) after then) text (appending.within both (104 * (i + 1)) (omega arith))
+        let both = appending.then (going .stands) one (omega (arith, few s)) in
+        record {
+          within = omega arith;
+          rest = rw (add-one i) (subst (λ (x : SubFrame). chain.Chain s (endOf x) (drop (suc i) (opening s .subs))) (sym this) (links .1 .1));
+          stands = appending.reads (appending.within both (104 * (i + 1)) (omega arith)) text;
+        }
 
-    pub whole : i ≤ opened .count → opened .count ≤ i → Appended out₀ at (subsListing table s (opening s .subs)) 6656 out next
-    whole h all =
-        let text = take-all i (opening s .subs) (omega (arith, count-is)) in
-        subst (λ (l : List SubFrame). Appended out₀ at (subsListing table s l) 6656 out next) text (appending.within stand 6656 (omega (arith, few)))
+  pub whole : length (opening s .subs) ≤ i → Appended out₀ at (subsListing table s (opening s .subs)) 6656 out next
+  whole all =
+      let text = ap (subsListing table s) (take-all i (opening s .subs) all) in
+      appending.reads (appending.within (going .stands) 6656 (omega (arith, few s, going .within))) text

@@ -12,7 +12,3 @@ digits (suc room) n = cond (ltb n 10) ((48 + n) ∷ []) (digits room (n / 10) ++
 -- 20 digits hold every number of 64 bits.
 abbrev pub decimal : ℕ → List ℕ
 decimal n = digits 20 n
-
--- the four digits of a number below 10,000, leading zeros with them
-abbrev pub fourDigits : ℕ → List ℕ
-fourDigits n = (48 + n / 1000) ∷ (48 + n / 100 % 10) ∷ (48 + n / 10 % 10) ∷ (48 + n % 10) ∷ []

@@ -1,8 +1,5 @@
 pub mod Decimal
-pub mod Field
-pub mod Hex
-pub mod Line
 pub mod Listing
-pub mod Pieces
 pub mod Stream
 pub mod Claims
+pub mod Private

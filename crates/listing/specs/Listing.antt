@@ -7,20 +7,25 @@ use lib.ListN.{length, take, drop}
 use Rattle.refusal.specs.Numbers.{sound, roomTooSmall}
 use Rattle.octets.specs.declared.Put.{Put}
 use Rattle.octets.specs.declared.Put.the-variants.{Written, NotWritten}
+use Rattle.octets.specs.Text.{ascii, lf}
 use Rattle.frame.specs.declared.header.SubFrame.{SubFrame}
 use Rattle.frame.specs.Opening.{Opening, opening}
 use Rattle.record.specs.Record.{foundAt}
 use Rattle.provisioning.specs.Text.{Reading, refused, taken, reading, tableOf}
 use Rattle.payload.specs.Content.{payloadRead, numberOf}
-use Rattle.lines.specs.Field.{frameKey, subsKey, cidKey, typeKey, lenKey, answerKey, refusedKey, atKey, textKey, lineKey, field}
-use Rattle.lines.specs.Hex.{Decoded, octets}
-use Rattle.lines.specs.Hex.{refused as refusedLine}
-use Rattle.lines.specs.Line.{lineRead}
-use Rattle.lines.specs.Pieces.{lineSize, textEnd}
+use Rattle.recording.specs.Line.{Held, octets, lineRead}
+use Rattle.recording.specs.Line.{refused as refusedLine}
+use Rattle.recording.specs.Pieces.{lineSize, textEnd}
+use Rattle.listing.specs.Decimal.{decimal}
+
+-- A field on its line: its name with `=`, a number, LF.
+unfoldable pub field : List ℕ → ℕ → List ℕ
+field name n = name ++ (decimal n ++ lf ∷ [])
 
 -- "then CID, type, payload octets and refusal (0 none) of each"
 unfoldable pub fourFields : ℕ → ℕ → ℕ → ℕ → List ℕ
-fourFields cid ptype len number = field cidKey cid ++ field typeKey ptype ++ field lenKey len ++ field answerKey number
+fourFields cid ptype len number =
+    field (ascii "cid=") cid ++ field (ascii "type=") ptype ++ field (ascii "len=") len ++ field (ascii "answer=") number
 
 -- the refusal number of a sub-frame of the frame s
 abbrev pub numberFor : List ℕ → List ℕ → SubFrame → ℕ
@@ -36,19 +41,19 @@ subsListing table s (sub ∷ subs) = subListing table s sub ++ subsListing table
 
 -- "A refused frame prints `frame=`, `refused=`, `at=`"
 unfoldable pub refusedListing : ℕ → ℕ → ℕ → List ℕ
-refusedListing n number at = field frameKey n ++ field refusedKey number ++ field atKey at
+refusedListing n number at = field (ascii "frame=") n ++ field (ascii "refused=") number ++ field (ascii "at=") at
 
 unfoldable pub openedListing : ℕ → List ℕ → List ℕ → Opening → List ℕ
 openedListing n table s o =
     cond (eqb (o .number) sound)
-    (field frameKey n ++ field subsKey (length (o .subs)) ++ subsListing table s (o .subs))
+    (field (ascii "frame=") n ++ field (ascii "subs=") (length (o .subs)) ++ subsListing table s (o .subs))
     (refusedListing n (o .number) (o .at))
 
 -- the frame s, which has the number n
 abbrev pub frameListing : ℕ → List ℕ → List ℕ → List ℕ
 frameListing n table s = openedListing n table s (opening s)
 
-abbrev pub readListing : ℕ → List ℕ → Decoded → List ℕ
+abbrev pub readListing : ℕ → List ℕ → Held → List ℕ
 readListing n table (octets s) = frameListing n table s
 readListing n table (refusedLine number) = refusedListing n number 0
 
@@ -58,7 +63,7 @@ lineListing n table line = readListing n table (lineRead line)
 
 -- "refused text prints `text=`, `line=` and stops"
 unfoldable pub textListing : ℕ → ℕ → List ℕ
-textListing number line = field textKey number ++ field lineKey line
+textListing number line = field (ascii "text=") number ++ field (ascii "line=") line
 
 -- The lines of s from number n on. Each has an octet, so that `room`, not below the octets, is enough.
 unfoldable pub linesListing : ℕ → ℕ → List ℕ → List ℕ → List ℕ

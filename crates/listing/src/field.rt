@@ -1,11 +1,11 @@
 // A field of the listing: its name, a number in decimal digits, LF.
+use octets::text::LF;
 ghost use mathlib.Core.List.{[], _∷_};
 ghost use Prim.Native.Nat.{_+_, _≤_, _<_};
 ghost use lib.ListN.{length};
-ghost use Rattle.lines.specs.Decimal.{decimal, fourDigits};
-ghost use Rattle.lines.specs.Field.{field, Appended};
-
-const LF: u8 = 10;
+ghost use Rattle.listing.specs.Decimal.{decimal};
+ghost use Rattle.listing.specs.Listing.{field};
+ghost use Rattle.listing.specs.Private.{fourDigits, Appended};
 
 // Puts an octet into room at a place, and answers the place after it.
 fn put_octet(out: &mut [u8], at: usize, octet: u8) -> usize
@@ -80,10 +80,17 @@ pub(crate) fn put_field(out: &mut [u8], at: usize, key: &[u8], n: u64) -> usize
     ensures { λ r. ⌜ Appended (now (out .entry)) at (field (now (key .entry)) n) (length (now (key .entry)) + 21) (now (out .exit)) r ⌝ }
 {
     let value = put_text(out, at, key);
-    if n < 10 {
-        let end = put_octet(out, value, 48 + n as u8);
-        return put_octet(out, end, LF);
-    }
     let end = put_number(out, value, n);
+    put_octet(out, end, LF)
+}
+
+// The same of a number below 10,000, the short way.
+pub(crate) fn put_small_field(out: &mut [u8], at: usize, key: &[u8], n: u64) -> usize
+    requires { ⌜ n < 10000 ⌝ }
+    requires { ⌜ at + (length (now key) + 21) ≤ length (now out) ⌝ }
+    ensures { λ r. ⌜ Appended (now (out .entry)) at (field (now (key .entry)) n) (length (now (key .entry)) + 21) (now (out .exit)) r ⌝ }
+{
+    let value = put_text(out, at, key);
+    let end = put_small(out, value, n);
     put_octet(out, end, LF)
 }

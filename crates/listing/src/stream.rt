@@ -1,28 +1,17 @@
 // A recording listed piece by piece, in fixed memory (document 01, "Listing program").
 use crate::listing::MOST_LISTED;
+use octets::Put;
+use recording::stream::Begun;
+use recording::stream::MOST_KEPT;
+use recording::stream::Taken;
 ghost use mathlib.Core.Path.{_≡_};
-ghost use Prim.Native.Nat.{_+_, _<_, _≤_};
+ghost use mathlib.Core.List.{[]};
+ghost use mathlib.Core.Bool.{cond};
+ghost use Prim.Native.Nat.{_+_, _≤_};
 ghost use lib.ListN.{length};
 ghost use Rattle.octets.specs.Room.{written};
-ghost use Rattle.lines.specs.Claims.{mostKept};
-ghost use Rattle.lines.specs.Stream.{linesListed, nextNumber, Next, pieceListed, answer, lastListed};
-
-// The room for the present line: the octets that decide its listing (`StartDecides`), that is `frame=`, 3,200 characters, and
-// one more.
-pub const MOST_KEPT: usize = 3207;
-
-// The same, as the definition has it.
-pub fn most_kept() -> usize
-    ensures { λ r. ⌜ r ≡ mostKept ⌝ }
-{
-    MOST_KEPT
-}
-
-// Between two pieces: how many octets of the present line are kept, and its frame number.
-pub struct Begun {
-    pub have: usize,
-    pub number: u64,
-}
+ghost use Rattle.listing.specs.Private.{Appended, listingOf};
+ghost use Rattle.listing.specs.Stream.{linesListed, pieceListed, answer, lastListed};
 
 // What listing a piece does: the octets taken of it, the octets listed, and how it stands then.
 pub struct Listed {
@@ -32,118 +21,18 @@ pub struct Listed {
     pub number: u64,
 }
 
-// The frame number after this one. The last of 64 bits stays.
-pub fn after(number: u64) -> u64
-    ensures { λ r. ⌜ r ≡ nextNumber number ⌝ }
+// A line that is taken from a piece, where it is whole, as the frame number n.
+fn put_taken(out: &mut [u8], at: usize, n: u64, table: &[u16; 256], line: Taken, frame: &[u8]) -> usize
+    requires { ⌜ at + 6709 ≤ length (now out) ⌝ }
+    requires { ⌜ line .read .octets ≤ length (now frame) ⌝ }
+    requires { ⌜ length (now frame) ≤ 1600 ⌝ }
+    ensures { λ r. ⌜ Appended (now (out .entry)) at (cond (line .whole) (listingOf n (now (table .entry)) (line .read) (now (frame .entry))) []) 6709 (now (out .exit)) r ⌝ }
 {
-    if number < u64::MAX {
-        return number + 1;
-    }
-    number
-}
-
-// A line of which nothing is kept: an ordinary one is decoded where it stands. What the piece has of one that goes on is kept.
-fn list_fresh(
-    piece: &[u8],
-    number: u64,
-    kept: &mut [u8],
-    table: &[u16; 256],
-    out: &mut [u8],
-    used: usize,
-    frame: &mut [u8],
-) -> Listed
-    requires { ⌜ 0 < length (now piece) ⌝ }
-    requires { ⌜ used + 6709 ≤ length (now out) ⌝ }
-    requires { ⌜ length (now frame) ≡ 1600 ⌝ }
-    ensures { λ r. ⌜ Next (now (table .entry)) 0 number used (now (kept .entry)) (now (piece .entry)) (now (out .entry)) r (now (kept .exit)) (now (out .exit)) ⌝ }
-{
-    let size = crate::line::ordinary(piece, frame);
-    if 0 < size {
-        let octets = (size - 7) / 2;
-        let next = crate::listing::put_frame(out, used, number, table, &frame[..octets]);
-        let follows = after(number);
-        return Listed {
-            taken: size,
-            used: next,
-            have: 0,
-            number: follows,
-        };
-    }
-    let line = crate::pieces::line_end(piece);
-    let end = line.size;
     if line.whole {
-        let next = crate::listing::put_line(out, used, number, table, &piece[..end]);
-        let follows = after(number);
-        return Listed {
-            taken: end,
-            used: next,
-            have: 0,
-            number: follows,
-        };
+        let read = line.read;
+        return crate::listing::put_read(out, at, n, table, read, frame);
     }
-    let part = crate::pieces::keep(kept, 0, piece);
-    Listed {
-        taken: part.taken,
-        used,
-        have: part.have,
-        number,
-    }
-}
-
-// A line of which some octets are kept.
-fn list_begun(
-    piece: &[u8],
-    have: usize,
-    number: u64,
-    kept: &mut [u8],
-    table: &[u16; 256],
-    out: &mut [u8],
-    used: usize,
-) -> Listed
-    requires { ⌜ (have ≡ 0 → ⊥) ⌝ }
-    requires { ⌜ 0 < length (now piece) ⌝ }
-    requires { ⌜ used + 6709 ≤ length (now out) ⌝ }
-    ensures { λ r. ⌜ Next (now (table .entry)) have number used (now (kept .entry)) (now (piece .entry)) (now (out .entry)) r (now (kept .exit)) (now (out .exit)) ⌝ }
-{
-    let line = crate::pieces::keep(kept, have, piece);
-    if line.whole {
-        let end = crate::pieces::least(line.have, kept.len());
-        let next = crate::listing::put_line(out, used, number, table, &kept[..end]);
-        let follows = after(number);
-        return Listed {
-            taken: line.taken,
-            used: next,
-            have: 0,
-            number: follows,
-        };
-    }
-    Listed {
-        taken: line.taken,
-        used,
-        have: line.have,
-        number,
-    }
-}
-
-fn list_next(
-    piece: &[u8],
-    have: usize,
-    number: u64,
-    kept: &mut [u8],
-    table: &[u16; 256],
-    out: &mut [u8],
-    used: usize,
-    frame: &mut [u8],
-) -> Listed
-    requires { ⌜ 0 < length (now piece) ⌝ }
-    requires { ⌜ used + 6709 ≤ length (now out) ⌝ }
-    requires { ⌜ length (now frame) ≡ 1600 ⌝ }
-    ensures { λ r. ⌜ Next (now (table .entry)) have number used (now (kept .entry)) (now (piece .entry)) (now (out .entry)) r (now (kept .exit)) (now (out .exit)) ⌝ }
-{
-    if have == 0 {
-        return list_fresh(piece, number, kept, table, out, used, frame);
-    }
-    list_begun(piece, have, number, kept, table, out, used)
+    at
 }
 
 // Lists the lines of a piece, to its end or to where the room for a listing runs short. What it has of a line that goes on is
@@ -159,8 +48,7 @@ fn list_lines(
     ensures keeps { λ r. ⌜ now (kept .exit) ≡ linesListed (length (now (out .entry))) (now (table .entry)) begun (now (kept .entry)) (now (piece .entry)) .kept ⌝ }
     ensures holds { λ r. ⌜ now (out .exit) ≡ written (now (out .entry)) 0 (linesListed (length (now (out .entry))) (now (table .entry)) begun (now (kept .entry)) (now (piece .entry)) .text) ⌝ }
 {
-    let mut have = begun.have;
-    let mut number = begun.number;
+    let mut stands = begun;
     let mut used: usize = 0;
     let mut at: usize = 0;
     let mut frame = [0u8; 1600];
@@ -169,30 +57,21 @@ fn list_lines(
             return Listed {
                 taken: at,
                 used,
-                have,
-                number,
+                have: stands.have,
+                number: stands.number,
             };
         }
-        let step = list_next(
-            &piece[at..],
-            have,
-            number,
-            kept,
-            table,
-            out,
-            used,
-            &mut frame,
-        );
-        at += step.taken;
-        used = step.used;
-        have = step.have;
-        number = step.number;
+        let line = recording::stream::take_line(&piece[at..], stands, kept, &mut frame);
+        used = put_taken(out, used, stands.number, table, line, &frame);
+        at += line.size;
+        let next = line.next;
+        stands = next;
     }
     Listed {
         taken: at,
         used,
-        have,
-        number,
+        have: stands.have,
+        number: stands.number,
     }
 }
 
@@ -228,9 +107,9 @@ pub fn list_last(begun: Begun, kept: &[u8], table: &[u16; 256], out: &mut [u8]) 
     if have == 0 {
         return 0;
     }
-    if out.len() < MOST_LISTED {
-        return 0;
+    let end = octets::least(have, kept.len());
+    match crate::listing::list_line(out, 0, begun.number, table, &kept[..end]) {
+        Put::Written(next) => next,
+        Put::NotWritten(_) => 0,
     }
-    let end = crate::pieces::least(have, kept.len());
-    crate::listing::put_line(out, 0, begun.number, table, &kept[..end])
 }

@@ -1,9 +1,10 @@
 -- What a line holds, case by case, in the terms of the code.
 use Prim.Native.Nat.{ℕ, _-_, _/_, _%_, _<_, _≤_}
-use mathlib.Core.Path.{_≡_, refl, sym, ap, _∙_}
+use mathlib.Core.Path.{_≡_, refl, sym, ap, subst⁻¹, _∙_}
 use mathlib.Core.List.{List, [], _++_}
 use mathlib.Core.Logic.{⊎-elim}
 use mathlib.Core.Bool.{Bool, true, false}
+use native.Mathlib.Nat.{le-trans}
 use native.Mathlib.Omega.{arith}
 use borrow.Author.Tests.{lt-ltb, le-ltb, eq-eqb, ne-eqb}
 use lib.ListN.{length, getD, take, drop, length-take, length-drop, drop-of-length-le}
@@ -139,35 +140,46 @@ module _ (line frame : List ℕ) where
         let fits : length s ≤ length frame = omega arith in
         rw e (simp (le-ltb (length frame) (length s) fits) (rw size refl, is))
 
--- A line holds at most 1,600 octets.
-pub few : (line : List ℕ) → length (octetsOf (lineRead line)) ≤ 1600
-few line =
-    either
-    (λ keyed.
-    ⊎-elim
-    (λ lf.
-    ⊎-elim (λ (h : 3200 < length line - 1 - 6). none (long line keyed lf h))
-    (λ (h : length line - 1 - 6 ≤ 3200).
-    ⊎-elim (λ o. none (uneven line keyed lf h o))
-    (λ e.
-    either (λ bad. none (other line keyed lf h e bad))
-    (λ hex. rw (whole line keyed lf h e hex) (omega (arith, size line keyed lf)))
-    (anyOther (take (length line - 1 - 6) (drop 6 line)))
-    refl)
-    (eq-or-ne ((length line - 1 - 6) % 2) 1))
-    (lt-or-le 3200 (length line - 1 - 6)))
-    (λ no-lf.
-    ⊎-elim (λ (h : 3200 < length line - 6). none (long-cut line keyed no-lf h)) (λ (h : length line - 6 ≤ 3200). none (cut line keyed no-lf h))
-    (lt-or-le 3200 (length line - 6)))
-    (eq-or-ne (getD line (length line - 1) 0) 10))
-    (λ e. none (otherwise line e))
-    (starts line frameKey)
-    refl
-  where
-    none : {number : ℕ} → lineRead line ≡ refused number → length (octetsOf (lineRead line)) ≤ 1600
-    none e = rw e (omega arith)
+-- A line holds at most 1,600 octets, or is refused with a number that is not 0.
+abbrev pub Fair : Held → Type 0
+Fair (octets s) = length s ≤ 1600
+Fair (refused number) = number ≡ sound → ⊥
 
--- room enough
-pub in-room : (room : ℕ) (held : Held) → length (octetsOf held) ≤ room → inRoom room held ≡ held
-in-room room (octets s) h = simp (le-ltb room (length s) h)
-in-room room (refused number) h = refl
+module _ (line : List ℕ) where
+  by-number : {number : ℕ} → lineRead line ≡ refused number → (number ≡ sound → ⊥) → Fair (lineRead line)
+  by-number e some = subst⁻¹ Fair e some
+
+  by-size : {s : List ℕ} → lineRead line ≡ octets s → length s ≤ 1600 → Fair (lineRead line)
+  by-size e small = subst⁻¹ Fair e small
+
+  module _ (keyed : starts line frameKey ≡ true) where
+    ended-fair : getD line (length line - 1) 0 ≡ 10 → Fair (lineRead line)
+    ended-fair lf =
+        ⊎-elim (λ (h : 3200 < length line - 1 - 6). by-number (long line keyed lf h) (λ z. omega arith))
+        (λ (h : length line - 1 - 6 ≤ 3200).
+        ⊎-elim (λ o. by-number (uneven line keyed lf h o) (λ z. omega arith))
+        (λ e.
+        either (λ bad. by-number (other line keyed lf h e bad) (λ z. omega arith))
+        (λ hex. by-size (whole line keyed lf h e hex) (omega (arith, size line keyed lf)))
+        (anyOther (take (length line - 1 - 6) (drop 6 line)))
+        refl)
+        (eq-or-ne ((length line - 1 - 6) % 2) 1))
+        (lt-or-le 3200 (length line - 1 - 6))
+
+    cut-fair : (getD line (length line - 1) 0 ≡ 10 → ⊥) → Fair (lineRead line)
+    cut-fair none =
+        ⊎-elim (λ (h : 3200 < length line - 6). by-number (long-cut line keyed none h) (λ z. omega arith))
+        (λ (h : length line - 6 ≤ 3200). by-number (cut line keyed none h) (λ z. omega arith))
+        (lt-or-le 3200 (length line - 6))
+
+  pub fair : Fair (lineRead line)
+  fair =
+      either (λ keyed. ⊎-elim (ended-fair keyed) (cut-fair keyed) (eq-or-ne (getD line (length line - 1) 0) 10))
+      (λ e. by-number (otherwise line e) (λ z. omega arith))
+      (starts line frameKey)
+      refl
+
+-- Room for 1,600 octets is enough.
+pub in-room : (room : ℕ) (held : Held) → 1600 ≤ room → Fair held → inRoom room held ≡ held
+in-room room (octets s) h fair = simp (le-ltb room (length s) (le-trans fair h))
+in-room room (refused number) h fair = refl

@@ -1,17 +1,17 @@
--- `lines::field::put_number` meets its contract: the digits before the last four, by itself, and these. The measure is the number.
+-- `listing::field::put_number` meets its contract: the digits before the last four, by itself, and these. The measure is the number.
 use native.Mathlib.Omega.{arith}
-use Rattle.lines.proofs.Appending as appending
-use Rattle.lines.proofs.Spelling as spelling
+use Rattle.listing.proofs.Appending as appending
+use Rattle.listing.proofs.Spelling as spelling
 use Prim.Native.Nat.{ℕ, _<_}
 use borrow.Fn.Kinds.{In}
 use borrow.Fn.PlainCycle.{Measures, is, falls, and}
-use Rattle.lines.proofs.field.put_number.Reads as put-number
-use Rattle.lines.proofs.field.put_number.Kinds as put-number-kinds
-use Rattle.lines.proofs.field.+put_number.Lts-put_number as put-number-lts
-use Rattle.lines.proofs.field.put_four_digits.Reads as put-four-digits-reads
-use Rattle.lines.proofs.field.put_small.Reads as put-small-reads
-use Rattle.lines.proofs.field.+put_number.{statement}
-use Rattle.lines.proofs.field.+put_number.Tie.{close}
+use Rattle.listing.proofs.field.put_number.Reads as put-number
+use Rattle.listing.proofs.field.put_number.Kinds as put-number-kinds
+use Rattle.listing.proofs.field.+put_number.Lts-put_number as put-number-lts
+use Rattle.listing.proofs.field.put_four_digits.Reads as put-four-digits-reads
+use Rattle.listing.proofs.field.put_small.Reads as put-small-reads
+use Rattle.listing.proofs.field.+put_number.{statement}
+use Rattle.listing.proofs.field.+put_number.Tie.{close}
 
 abbrev μ-put-number : Measures 1 put-number-kinds.ps ℕ
 μ-put-number κs a = a .1 .1 .0

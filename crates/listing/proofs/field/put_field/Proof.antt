@@ -1,10 +1,10 @@
--- `lines::field::put_field` meets its contract: the name, the digits, LF.
+-- `listing::field::put_field` meets its contract: the name, the digits, LF.
 use native.Mathlib.Omega.{arith}
-use Rattle.lines.proofs.Appending as appending
-use Rattle.lines.proofs.Spelling as spelling
+use Rattle.listing.proofs.Appending as appending
+use Rattle.listing.proofs.Spelling as spelling
 use borrow.Author.Needs.{needs}
-use Rattle.lines.proofs.field.put_field.Statement.{statement}
-use Rattle.lines.proofs.field.put_field.Tie as tie
+use Rattle.listing.proofs.field.put_field.Statement.{statement}
+use Rattle.listing.proofs.field.put_field.Tie as tie
 
 put-text-requires : tie.Need-put-text-requires
 put-text-requires c κs = search needs

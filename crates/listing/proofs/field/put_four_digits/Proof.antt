@@ -1,9 +1,9 @@
--- `lines::field::put_four_digits` meets its contract: four octets, one behind the other.
+-- `listing::field::put_four_digits` meets its contract: four octets, one behind the other.
 use native.Mathlib.Omega.{arith}
-use Rattle.lines.proofs.Appending as appending
+use Rattle.listing.proofs.Appending as appending
 use borrow.Author.Needs.{needs}
-use Rattle.lines.proofs.field.put_four_digits.Statement.{statement}
-use Rattle.lines.proofs.field.put_four_digits.Tie as tie
+use Rattle.listing.proofs.field.put_four_digits.Statement.{statement}
+use Rattle.listing.proofs.field.put_four_digits.Tie as tie
 
 cast-put-octet : tie.Need-cast-put-octet
 cast-put-octet c = search needs

@@ -1,8 +1,8 @@
--- `lines::field::put_octet` meets its contract.
-use Rattle.lines.proofs.Appending as appending
+-- `listing::field::put_octet` meets its contract.
+use Rattle.listing.proofs.Appending as appending
 use borrow.Author.Needs.{needs}
-use Rattle.lines.proofs.field.put_octet.Statement.{statement}
-use Rattle.lines.proofs.field.put_octet.Tie as tie
+use Rattle.listing.proofs.field.put_octet.Statement.{statement}
+use Rattle.listing.proofs.field.put_octet.Tie as tie
 
 slice-write-out : tie.Need-slice-write-out
 slice-write-out c = search needs

@@ -1,10 +1,10 @@
--- `lines::field::put_small` meets its contract: one to four digits.
+-- `listing::field::put_small` meets its contract: one to four digits.
 use native.Mathlib.Omega.{arith}
-use Rattle.lines.proofs.Appending as appending
-use Rattle.lines.proofs.Spelling as spelling
+use Rattle.listing.proofs.Appending as appending
+use Rattle.listing.proofs.Spelling as spelling
 use borrow.Author.Needs.{needs}
-use Rattle.lines.proofs.field.put_small.Statement.{statement}
-use Rattle.lines.proofs.field.put_small.Tie as tie
+use Rattle.listing.proofs.field.put_small.Statement.{statement}
+use Rattle.listing.proofs.field.put_small.Tie as tie
 
 cast-put-octet : tie.Need-cast-put-octet
 cast-put-octet c = search needs

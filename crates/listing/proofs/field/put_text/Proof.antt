@@ -1,13 +1,13 @@
--- `lines::field::put_text` meets its contract: after i turns the first i octets stand.
+-- `listing::field::put_text` meets its contract: after i turns the first i octets stand.
 use Prim.Native.Nat.{_-_, _≤_}
 use mathlib.Core.Path.{refl}
 use lib.ListN.{length, take}
 use native.Mathlib.Omega.{arith}
-use Rattle.lines.proofs.Appending as appending
+use Rattle.listing.proofs.Appending as appending
 use borrow.Author.Needs.{needs}
-use Rattle.lines.specs.Field.{Appended}
-use Rattle.lines.proofs.field.put_text.Statement.{statement}
-use Rattle.lines.proofs.field.put_text.Tie as tie
+use Rattle.listing.specs.Private.{Appended}
+use Rattle.listing.proofs.field.put_text.Statement.{statement}
+use Rattle.listing.proofs.field.put_text.Tie as tie
 
 abbrev Inv-loop : tie.InvT-loop
 Inv-loop out₀ at text next₀ i₀ out next i = (i ≤ length text) × Appended out₀ at (take i text) i out next

@@ -1,8 +1,8 @@
--- `lines::listing::list_line` meets its contract: where the room is there, the line is listed.
-use Rattle.lines.proofs.Listings as listings
+-- `listing::listing::list_line` meets its contract: where the room is there, the line is listed.
+use Rattle.listing.proofs.Listings as listings
 use borrow.Author.Needs.{needs}
-use Rattle.lines.proofs.listing.list_line.Statement.{statement}
-use Rattle.lines.proofs.listing.list_line.Tie as tie
+use Rattle.listing.proofs.listing.list_line.Statement.{statement}
+use Rattle.listing.proofs.listing.list_line.Tie as tie
 
 returns : tie.Need-returns
 returns c =

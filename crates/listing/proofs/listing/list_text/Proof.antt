@@ -1,11 +1,11 @@
--- `lines::listing::list_text` meets its contract: where the room is there, two fields.
-use Rattle.lines.proofs.Listings as listings
-use Rattle.lines.proofs.Appending as appending
-use Rattle.lines.specs.Listing.{textListing}
+-- `listing::listing::list_text` meets its contract: where the room is there, two fields.
+use Rattle.listing.proofs.Listings as listings
+use Rattle.listing.proofs.Appending as appending
+use Rattle.listing.specs.Listing.{textListing}
 use native.Mathlib.Omega.{arith}
 use borrow.Author.Needs.{needs}
-use Rattle.lines.proofs.listing.list_text.Statement.{statement}
-use Rattle.lines.proofs.listing.list_text.Tie as tie
+use Rattle.listing.proofs.listing.list_text.Statement.{statement}
+use Rattle.listing.proofs.listing.list_text.Tie as tie
 
 returns : tie.Need-returns
 returns c =

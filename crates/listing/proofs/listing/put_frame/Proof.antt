@@ -1,10 +1,10 @@
--- `lines::listing::put_frame` meets its contract: the fields of a sound frame, or of a refused one.
-use Rattle.lines.proofs.Listings as listings
-use Rattle.lines.proofs.Appending as appending
+-- `listing::listing::put_frame` meets its contract: the fields of a sound frame, or of a refused one.
+use Rattle.listing.proofs.Listings as listings
+use Rattle.listing.proofs.Appending as appending
 use native.Mathlib.Omega.{arith}
 use borrow.Author.Needs.{needs}
-use Rattle.lines.proofs.listing.put_frame.Statement.{statement}
-use Rattle.lines.proofs.listing.put_frame.Tie as tie
+use Rattle.listing.proofs.listing.put_frame.Statement.{statement}
+use Rattle.listing.proofs.listing.put_frame.Tie as tie
 
 open-requires : tie.Need-open-requires
 open-requires c κs = search needs

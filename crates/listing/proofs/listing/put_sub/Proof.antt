@@ -1,8 +1,8 @@
--- `lines::listing::put_sub` meets its contract: the number of its payload, and four fields.
-use Rattle.lines.proofs.Listings as listings
+-- `listing::listing::put_sub` meets its contract: the number of its payload, and four fields.
+use Rattle.listing.proofs.Listings as listings
 use borrow.Author.Needs.{needs}
-use Rattle.lines.proofs.listing.put_sub.Statement.{statement}
-use Rattle.lines.proofs.listing.put_sub.Tie as tie
+use Rattle.listing.proofs.listing.put_sub.Statement.{statement}
+use Rattle.listing.proofs.listing.put_sub.Tie as tie
 
 add-end : tie.Need-add-end
 add-end c = search needs

@@ -1,14 +1,14 @@
--- `lines::listing::put_subs` meets its contract: each turn puts one sub-frame more.
-use Rattle.lines.proofs.SubsTurns as turns
+-- `listing::listing::put_subs` meets its contract: each turn puts one sub-frame more.
+use Rattle.listing.proofs.SubsTurns as turns
 use Prim.Native.Nat.{_-_, _*_, _≤_}
 use native.Mathlib.Omega.{arith}
 use lib.ListN.{take}
 use Rattle.frame.specs.Opening.{opening}
-use Rattle.lines.specs.Field.{Appended}
-use Rattle.lines.specs.Listing.{subsListing}
+use Rattle.listing.specs.Private.{Appended}
+use Rattle.listing.specs.Listing.{subsListing}
 use borrow.Author.Needs.{needs}
-use Rattle.lines.proofs.listing.put_subs.Statement.{statement}
-use Rattle.lines.proofs.listing.put_subs.Tie as tie
+use Rattle.listing.proofs.listing.put_subs.Statement.{statement}
+use Rattle.listing.proofs.listing.put_subs.Tie as tie
 
 abbrev Inv-loop : tie.InvT-loop
 Inv-loop out₀ at table frame count subs next₀ i₀ out next i = (i ≤ count) × Appended out₀ at (subsListing table frame (take i (opening frame .subs))) (104 * i) out next

@@ -1,12 +1,12 @@
--- `lines::stream::list_last` meets its contract: the line that is kept, where there is one and the room is there.
-use Rattle.lines.proofs.StreamTurns as turns
+-- `listing::stream::list_last` meets its contract: the line that is kept, where there is one and the room is there.
+use Rattle.listing.proofs.StreamTurns as turns
 use lib.ListN.{length}
 use lib.Seq.{length-take-le}
 use native.Mathlib.Omega.{arith}
 use mathlib.Core.Path.{sym}
 use borrow.Author.Needs.{needs}
-use Rattle.lines.proofs.stream.list_last.Statement.{statement}
-use Rattle.lines.proofs.stream.list_last.Tie as tie
+use Rattle.listing.proofs.stream.list_last.Statement.{statement}
+use Rattle.listing.proofs.stream.list_last.Tie as tie
 
 returns : tie.Need-returns
 returns c =

@@ -1,13 +1,13 @@
--- `lines::stream::list_lines` meets its contract: each turn takes a line, or what the piece has of it.
+-- `listing::stream::list_lines` meets its contract: each turn takes a line, or what the piece has of it.
 use Prim.Native.Nat.{_-_}
 use mathlib.Core.Path.{_≡_, refl, sym}
 use native.Mathlib.Omega.{arith}
 use borrow.Author.Needs.{needs}
 use lib.ListN.{length}
-use Rattle.lines.specs.Stream.{walk}
-use Rattle.lines.proofs.StreamTurns as turns
-use Rattle.lines.proofs.stream.list_lines.Statement.{statement}
-use Rattle.lines.proofs.stream.list_lines.Tie as tie
+use Rattle.listing.specs.Stream.{walk}
+use Rattle.listing.proofs.StreamTurns as turns
+use Rattle.listing.proofs.stream.list_lines.Statement.{statement}
+use Rattle.listing.proofs.stream.list_lines.Tie as tie
 
 abbrev Inv-loop : tie.InvT-loop
 Inv-loop piece kept₀ table out₀ have₀ number₀ used₀ at₀ frame₀ kept out have number used at frame =

@@ -1,9 +1,9 @@
--- `lines::stream::list_piece` meets its contract: the lines are listed where the room for one is there.
-use Rattle.lines.proofs.StreamTurns as turns
+-- `listing::stream::list_piece` meets its contract: the lines are listed where the room for one is there.
+use Rattle.listing.proofs.StreamTurns as turns
 use lib.ListN.{length}
 use borrow.Author.Needs.{needs}
-use Rattle.lines.proofs.stream.list_piece.Statement.{statement}
-use Rattle.lines.proofs.stream.list_piece.Tie as tie
+use Rattle.listing.proofs.stream.list_piece.Statement.{statement}
+use Rattle.listing.proofs.stream.list_piece.Tie as tie
 
 returns : tie.Need-returns
 returns c =
