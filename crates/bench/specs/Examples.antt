@@ -8,7 +8,7 @@ use lib.ListN.{replicate}
 use lib.IntN.{ℤ, pos, negsuc}
 use Rattle.octets.specs.Made.{Made, made, unmade}
 use Rattle.frame.specs.Opening.{opening}
-use Rattle.frame.specs.Joining.{Content, shortestHeader, joined}
+use Rattle.frame.specs.Joining.{Member, shortestHeader, joined}
 use Rattle.framing.specs.Claims.{list}
 use Rattle.digits.specs.declared.layout.Digits.{Digits}
 use Rattle.digits.specs.Layout.{digitsMade}
@@ -29,7 +29,7 @@ abbrev pub checked : List ℕ → List ℕ
 checked frame = opening frame .number ∷ []
 
 -- what a frame reads as: each sub-frame's CID, type and payload
-abbrev pub flat : List Content → List ℕ
+abbrev pub flat : List Member → List ℕ
 flat [] = []
 flat (c ∷ cs) = c .cid ∷ c .ptype ∷ c .payload ++ flat cs
 

@@ -1,17 +1,15 @@
--- What `told` gives in each of its cases, and what `headerAt` reads, in the terms of the code.
-use Prim.Native.Nat.{ℕ, zero, suc, _+_, _-_, _<_, _≤_}
-use mathlib.Core.Path.{_≡_, refl, ap, _∙_}
+-- What `told` gives in each of its cases, and `headerAt` of it.
+use Prim.Native.Nat.{ℕ, _+_, _-_, _<_, _≤_}
+use mathlib.Core.Path.{_≡_, _∙_}
 use mathlib.Core.List.{List}
 use mathlib.Core.Bool.{true, false, cond}
-use native.Mathlib.Nat.{add-zero, add-assoc, not-suc-le-zero, le-of-suc-le-suc}
 use native.Mathlib.Omega.{arith}
 use borrow.Author.Tests.{lt-ltb, le-ltb, eq-eqb, ne-eqb}
 use lib.Dec.{ltb, eqb}
-use lib.ListN.{length, getD, drop, length-drop}
-use lib.Seq.{getD-drop}
+use lib.ListN.{length, drop}
 use Rattle.refusal.specs.Numbers.{headerCut, cidReserved, spareBitSet, lengthPastField, lastWithLength}
 use Rattle.frame.specs.declared.header.Header.the-variants.{Sub, Bad, Past}
-use Rattle.frame.specs.Header.{ei, li, spare, payloadType, size, octet1, octet1a, octet1b, cidOf, told, headerAt}
+use Rattle.frame.specs.Header.{li, spare, payloadType, size, octet1, octet1a, octet1b, cidOf, told, headerAt}
 
 module _ (at o a b n : ℕ) where
   pub cut : n < size o → told at o a b n ≡ Bad headerCut
@@ -26,14 +24,20 @@ module _ (at o a b n : ℕ) where
     module _ (free : 4 ≤ cidOf o a) where
       pub spare-set : (spare a ≡ 0 → ⊥) → told at o a b n ≡ Bad spareBitSet
       unfolding told
-      spare-set h = simp (le-ltb n (size o) whole, le-ltb (cidOf o a) 4 free, ne-eqb (spare a) 0 h)
+      spare-set h =
+          let set : 0 < spare a = omega (arith, h) in
+          simp (le-ltb n (size o) whole, le-ltb (cidOf o a) 4 free, lt-ltb 0 (spare a) set)
 
       module _ (clear : spare a ≡ 0) where
+        none-set : spare a ≤ 0
+        none-set = omega arith
+
         pub last-one :
             li o ≡ 0
             → told at o a b n ≡ Sub (record { cid = cidOf o a; ptype = payloadType a; start = at + size o; len = n - size o; last = true })
         unfolding told
-        last-one h = simp (le-ltb n (size o) whole, le-ltb (cidOf o a) 4 free, eq-eqb (spare a) 0 clear, eq-eqb (li o) 0 h)
+        last-one h =
+            simp (le-ltb n (size o) whole, le-ltb (cidOf o a) 4 free, le-ltb 0 (spare a) none-set, eq-eqb (li o) 0 h)
 
         module _ (more : li o ≡ 0 → ⊥) where
           -- past the tests for 3, 4 and 5, where LI is 1
@@ -43,7 +47,8 @@ module _ (at o a b n : ℕ) where
               (cond (eqb (n - size o) b) (Bad lastWithLength)
               (Sub (record { cid = cidOf o a; ptype = payloadType a; start = at + size o; len = b; last = false })))
           unfolding told
-          on = simp (le-ltb n (size o) whole, le-ltb (cidOf o a) 4 free, eq-eqb (spare a) 0 clear, ne-eqb (li o) 0 more)
+          on =
+              simp (le-ltb n (size o) whole, le-ltb (cidOf o a) 4 free, le-ltb 0 (spare a) none-set, ne-eqb (li o) 0 more)
 
           pub past : n - size o < b → told at o a b n ≡ Bad lengthPastField
           past h = on ∙ simp (lt-ltb (n - size o) b h)
@@ -57,15 +62,6 @@ module _ (at o a b n : ℕ) where
                 → told at o a b n ≡ Sub (record { cid = cidOf o a; ptype = payloadType a; start = at + size o; len = b; last = false })
             another h = on ∙ simp (le-ltb (n - size o) b within, ne-eqb (n - size o) b h)
 
-          -- the same by the tests of the code
-          pub goes-on :
-              b < n - size o
-              → told at o a b n ≡ Sub (record { cid = cidOf o a; ptype = payloadType a; start = at + size o; len = b; last = false })
-          goes-on h = another (omega arith) (λ z. omega (arith, z))
-
-          pub ends-there : n - size o ≤ b → b ≤ n - size o → told at o a b n ≡ Bad lastWithLength
-          ends-there h g = ends g (omega arith)
-
 module _ (s : List ℕ) (at : ℕ) where
   pub nothing : length s ≤ at → headerAt s at ≡ Past
   unfolding headerAt
@@ -76,24 +72,3 @@ module _ (s : List ℕ) (at : ℕ) where
       → headerAt s at ≡ told at (octet1 (drop at s)) (octet1a (drop at s)) (octet1b (drop at s)) (length (drop at s))
   unfolding headerAt
   there here = simp (lt-ltb at (length s) here)
-
--- what is taken for octet 1a, where EI is 0 or 1
-where-ei : (e : ℕ) (octet : ℕ → ℕ) → e < 2 → cond (eqb e 0) 0 (octet 1) ≡ cond (eqb e 0) 0 (octet e)
-where-ei zero octet h = refl
-where-ei (suc zero) octet h = refl
-where-ei (suc (suc e)) octet h = absurd (not-suc-le-zero (le-of-suc-le-suc (le-of-suc-le-suc h)))
-
--- the header at a place that the frame has, by the octets that the code reads
-module _ (s : List ℕ) (at a : ℕ) where
-  pub told-at :
-      at < length s
-      → getD s at 0 < 256
-      → a ≡ cond (eqb (ei (getD s at 0)) 0) 0 (getD s (at + ei (getD s at 0)) 0)
-      → headerAt s at
-      ≡ told at (getD s at 0) a (getD s (at + ei (getD s at 0) + li (getD s at 0)) 0) (length s - at)
-  unfolding headerAt
-  told-at here octet e =
-      let o : ℕ = getD s at 0 in
-      let one : getD (drop at s) 0 0 ≡ o = getD-drop at s 0 0 ∙ ap (λ (k : ℕ). getD s k 0) (add-zero at) in
-      let small : ei o < 2 = omega arith in
-      simp (lt-ltb at (length s) here, one, getD-drop, length-drop, where-ei (ei o) (λ (k : ℕ). getD s (at + k) 0) small, ← e, add-assoc)

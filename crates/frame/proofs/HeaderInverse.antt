@@ -5,12 +5,13 @@ use mathlib.Core.List.{List}
 use mathlib.Core.Bool.{true, false}
 use mathlib.Core.Logic.{_⊎_, inl, inr, ⊎-elim}
 use native.Mathlib.Omega.{arith}
+use borrow.Author.Tests.{lt-ltb, eq-eqb, ne-eqb}
 use lib.ListN.{length, drop, length-drop}
 use Rattle.octets.proofs.Order.{lt-or-le, eq-or-ne}
 use Rattle.frame.specs.declared.header.SubFrame.{SubFrame}
 use Rattle.frame.specs.declared.header.Header.{Header}
 use Rattle.frame.specs.declared.header.Header.the-variants.{Sub, Bad, Past}
-use Rattle.frame.specs.Header.{li, spare, payloadType, size, octet1, octet1a, octet1b, cidOf, told, headerAt}
+use Rattle.frame.specs.Header.{li, spare, payloadType, size, octet1, octet1a, octet1b, cidOf, told, headerAt, subAt, SubAtTells}
 use Rattle.frame.specs.Opening.{endOf}
 use Rattle.frame.proofs.HeaderCases as cases
 
@@ -95,3 +96,12 @@ module _ (s : List ℕ) (at : ℕ) (sub : SubFrame) (e : headerAt s at ≡ Sub s
       ⊎-elim (λ w. omega (arith, simp length-drop at (ap endOf (w .1))))
       (λ w. omega (arith, simp length-drop at (w .1), ap endOf (w .2)))
       (read-inverse .is)
+
+pub sub-at-tells : SubAtTells
+unfolding subAt
+sub-at-tells s at sub e =
+    let told = read-inverse s at sub e in
+    let inside = lt-ltb at (length s) (here s at sub e) in
+    ⊎-elim (λ w. simp (inside, eq-eqb (li (octet1 (drop at s))) 0 (w .0)) (w .1))
+    (λ w. simp (inside, ne-eqb (li (octet1 (drop at s))) 0 (w .0)) (w .2))
+    (told .is)

@@ -1,34 +1,22 @@
--- The loop of `scan`: what stands in the answer's places, and what is still to come of the opening.
-use Prim.Native.Nat.{ℕ, suc, _+_, _-_, _<_, _≤_}
-use mathlib.Core.Path.{_≡_, refl, sym, ap, _∙_}
+-- Opening a frame: its cases, the loop of `scan_from`, and what is known of the sub-frames that a scan tells.
+use Prim.Native.Nat.{ℕ, zero, suc, _+_, _-_, _<_, _≤_}
+use mathlib.Core.Path.{_≡_, refl, sym, ap, subst, _∙_}
 use mathlib.Core.List.{List, [], _∷_, _++_, append-nil}
-use mathlib.Core.Bool.{true, false}
+use mathlib.Core.Bool.{Bool, true, false, cond}
 use mathlib.Core.Logic.{⊎-elim}
+use native.Mathlib.Nat.{add-zero}
 use native.Mathlib.Omega.{arith}
 use borrow.Author.Tests.{lt-ltb, le-ltb, eq-eqb, ne-eqb}
-use lib.ListN.{length, replicate, set, length-append}
-use lib.Seq.{set-at, append-snoc}
-use Rattle.octets.proofs.Order.{eq-or-ne}
+use lib.ListN.{length, length-append}
+use lib.Seq.{append-snoc}
+use Rattle.octets.proofs.Order.{lt-or-le, eq-or-ne}
 use Rattle.refusal.specs.Numbers.{sound, fieldEmpty, fieldTooLong, tooManySubFrames}
 use Rattle.frame.specs.declared.header.SubFrame.{SubFrame}
 use Rattle.frame.specs.declared.header.Header.{Header}
 use Rattle.frame.specs.declared.header.Header.the-variants.{Sub, Bad, Past}
-use Rattle.frame.specs.declared.opening.Opened.{Opened}
+use Rattle.frame.specs.declared.opening.Checked.{Checked}
 use Rattle.frame.specs.Header.{headerAt}
-use Rattle.frame.specs.Opening.{Opening, stopped, endOf, endOfHeader, onwards, scan, scanned, opening, unused, answer}
-
--- sub-frames that were found, before what is still to come
-abbrev pub behind : List SubFrame → Opening → Opening
-behind found rest = record { number = rest .number; at = rest .at; subs = found ++ rest .subs }
-
--- After `count` turns: the places hold what was found and are unused beyond it, and the whole opening is that, before the
--- scan from the present place on.
-pub record Going (s : List ℕ) (whole : Opening) (subs : List SubFrame) (at count : ℕ) : Type 0 where
-  pub found : List SubFrame
-  pub many : length found ≡ count
-  pub within : count ≤ 64
-  pub stands : subs ≡ found ++ replicate (64 - count) unused
-  pub opens : whole ≡ behind found (scan (64 - count) s at)
+use Rattle.frame.specs.Opening.{mostOctets, mostSubFrames, Opening, stopped, before, endOf, endOfHeader, onwards, scan, scanned, opening, checked}
 
 module _ (s : List ℕ) where
   pub empty : length s ≡ 0 → scanned s ≡ stopped fieldEmpty 0
@@ -36,13 +24,13 @@ module _ (s : List ℕ) where
   empty h = simp (eq-eqb (length s) 0 h)
 
   module _ (some : length s ≡ 0 → ⊥) where
-    pub long : 1600 < length s → scanned s ≡ stopped fieldTooLong 0
+    pub long : mostOctets < length s → scanned s ≡ stopped fieldTooLong 0
     unfolding scanned
-    long h = simp (ne-eqb (length s) 0 some, lt-ltb 1600 (length s) h)
+    long h = simp (ne-eqb (length s) 0 some, lt-ltb mostOctets (length s) h)
 
-    pub scans : length s ≤ 1600 → scanned s ≡ scan 64 s 0
+    pub scans : length s ≤ mostOctets → scanned s ≡ scan mostSubFrames s 0
     unfolding scanned
-    scans h = simp (ne-eqb (length s) 0 some, le-ltb 1600 (length s) h)
+    scans h = simp (ne-eqb (length s) 0 some, le-ltb mostOctets (length s) h)
 
   -- all of a sound scan is handed out, and no sub-frame of any other
   pub sound-is : scanned s .number ≡ sound → opening s ≡ scanned s
@@ -53,86 +41,139 @@ module _ (s : List ℕ) where
   unfolding opening
   refused-is h = simp (ne-eqb (scanned s .number) sound h)
 
+  pub refused-opens :
+      (number at : ℕ) → number ≡ scanned s .number → at ≡ scanned s .at → (number ≡ sound → ⊥) → stopped number at ≡ opening s
+  refused-opens number at p q some = rw (p, q) (sym (refused-is (λ z. some (p ∙ z))))
+
   pub number-is : opening s .number ≡ scanned s .number
   number-is =
       ⊎-elim (λ h. ap (λ (o : Opening). o .number) (sound-is h)) (λ h. ap (λ (o : Opening). o .number) (refused-is h))
       (eq-or-ne (scanned s .number) sound)
 
-pub begins : (s : List ℕ) → Going s (scan 64 s 0) (replicate 64 unused) 0 0
-begins s = record { found = []; many = refl; within = omega arith; stands = refl; opens = refl }
+  -- what holds of every refusal and of the scan holds of the opening
+  module _ (P : Opening → Type 0) (refused : (number at : ℕ) → P (stopped number at)) (scan-holds : P (scan mostSubFrames s 0)) where
+    scanned-holds : P (scanned s)
+    scanned-holds =
+        ⊎-elim (λ none. subst P (sym (empty none)) (refused _ _))
+        (λ some.
+        ⊎-elim (λ h. subst P (sym (long some h)) (refused _ _)) (λ h. subst P (sym (scans some h)) scan-holds) (lt-or-le mostOctets (length s)))
+        (eq-or-ne (length s) 0)
+
+    pub opening-holds : P (opening s)
+    opening-holds =
+        ⊎-elim (λ h. subst P (sym (sound-is h)) scanned-holds) (λ h. subst P (sym (refused-is h)) (refused _ _))
+        (eq-or-ne (scanned s .number) sound)
+
+-- sub-frames that were found, before what is still to come
+abbrev behind : List SubFrame → Opening → Opening
+behind found rest = record { number = rest .number; at = rest .at; subs = found ++ rest .subs }
+
+-- When `begun` sub-frames have begun, `earlier` of them before the scan: the whole scan is what was found, before the scan from
+-- the present place on.
+pub record Passed (s : List ℕ) (whole : Opening) (earlier at begun : ℕ) : Type 0 where
+  pub found : List SubFrame
+  pub many : earlier + length found ≡ begun
+  pub opens : whole ≡ behind found (scan (mostSubFrames - begun) s at)
+
+pub begins : (s : List ℕ) (at earlier : ℕ) → Passed s (scan (mostSubFrames - earlier) s at) earlier at earlier
+begins s at earlier = record { found = []; many = add-zero earlier; opens = refl }
 
 -- the answer, from what was found and where the scan stopped
 closes :
-    (o : Opening) (number place count : ℕ) (subs found : List SubFrame)
-    → number ≡ o .number
-    → place ≡ o .at
-    → found ≡ o .subs
-    → length found ≡ count
-    → subs ≡ found ++ replicate (64 - count) unused
-    → _≡_ {A = Opened} (record { number = number; at = place; count = count; subs = subs }) (answer o)
-closes o number place count subs found p q r many stands =
-    let c : count ≡ length (o .subs) = cc in
-    let t : subs ≡ o .subs ++ replicate (64 - length (o .subs)) unused = rw (stands, r, c) in
-    cc
+    (whole : Opening) (found : List SubFrame) (earlier begun number at : ℕ)
+    → earlier + length found ≡ begun
+    → whole ≡ behind found (stopped number at)
+    → _≡_ {A = Checked} (record { number = number; at = at; count = begun - earlier }) (checked whole)
+closes whole found earlier begun number at many o =
+    let count : begun - earlier ≡ length found = omega arith in
+    rw (o, append-nil, count)
 
-module _ (s : List ℕ) (whole : Opening) (subs : List SubFrame) (at count : ℕ) (going : Going s whole subs at count) where
-  pub full :
-      64 ≤ count
-      → _≡_ {A = Opened} (record { number = tooManySubFrames; at = at; count = count; subs = subs }) (answer whole)
+module _ {s : List ℕ} {whole : Opening} {earlier at begun : ℕ} (passed : Passed s whole earlier at begun) where
+  pub full : mostSubFrames ≤ begun → _≡_ {A = Checked} (record { number = tooManySubFrames; at = at; count = begun - earlier }) (checked whole)
   unfolding scan
   full most =
-      let none : 64 - count ≡ 0 = omega arith in
-      let o : whole ≡ behind (going .found) (stopped tooManySubFrames at) = going .opens ∙ rw none in
-      closes whole _ _ _ _ (going .found) (rw o) (rw o) (rw (o, append-nil)) (going .many) (going .stands)
+      let none : mostSubFrames - begun ≡ 0 = omega arith in
+      closes whole (passed .found) earlier begun tooManySubFrames at (passed .many) (passed .opens ∙ rw none)
 
-  module _ (less : count < 64) where
-    -- one more found stands in the next place
-    next-place : (sub : SubFrame) → set subs count sub ≡ (going .found ++ sub ∷ []) ++ replicate (64 - (count + 1)) unused
-    next-place sub =
-        let one : 64 - count ≡ suc (64 - (count + 1)) = omega arith in
-        rw (going .stands, one)
-        (set-at (going .found) unused (replicate (64 - (count + 1)) unused) sub count (going .many)
-        ∙ sym (append-snoc (going .found) sub (replicate (64 - (count + 1)) unused)))
+  module _ (less : begun < mostSubFrames) where
+    one-more : (sub : SubFrame) → earlier + length (passed .found ++ sub ∷ []) ≡ begun + 1
+    one-more sub = omega (arith, passed .many, length-append (passed .found) (sub ∷ []))
 
-    one-more : (sub : SubFrame) → length (going .found ++ sub ∷ []) ≡ count + 1
-    one-more sub = length-append (going .found) (sub ∷ []) ∙ ap (λ (n : ℕ). n + 1) (going .many)
-
-    opens-on : (h : Header) → headerAt s at ≡ h → whole ≡ behind (going .found) (onwards h at (scan (64 - (count + 1)) s (endOfHeader h)))
+    opens-on : (h : Header) → headerAt s at ≡ h → whole ≡ behind (passed .found) (onwards h at (scan (mostSubFrames - (begun + 1)) s (endOfHeader h)))
     unfolding scan
     opens-on h e =
-        let one : 64 - count ≡ suc (64 - (count + 1)) = omega arith in
-        going .opens ∙ ap (behind (going .found)) (rw (one, ← e))
+        let one : mostSubFrames - begun ≡ suc (mostSubFrames - (begun + 1)) = omega arith in
+        passed .opens ∙ ap (behind (passed .found)) (rw (one, ← e))
 
-    pub turn :
-        (sub : SubFrame) → headerAt s at ≡ Sub sub → sub .last ≡ false → Going s whole (set subs count sub) (endOf sub) (count + 1)
+    pub turn : (sub : SubFrame) → headerAt s at ≡ Sub sub → sub .last ≡ false → Passed s whole earlier (endOf sub) (begun + 1)
     turn sub e more =
-        record {
-          found = going .found ++ sub ∷ [];
-          many = one-more sub;
-          within = omega arith;
-          stands = next-place sub;
-          opens = opens-on (Sub sub) e ∙ rw (more, append-snoc);
-        }
+        record { found = passed .found ++ sub ∷ []; many = one-more sub; opens = opens-on (Sub sub) e ∙ rw (more, append-snoc) }
 
     pub final :
         (sub : SubFrame)
         → headerAt s at ≡ Sub sub
         → sub .last ≡ true
-        → _≡_ {A = Opened} (record { number = sound; at = endOf sub; count = count + 1; subs = set subs count sub }) (answer whole)
+        → _≡_ {A = Checked} (record { number = sound; at = endOf sub; count = begun + 1 - earlier }) (checked whole)
     final sub e last =
-        let o = opens-on (Sub sub) e in
-        closes whole _ _ _ _ (going .found ++ sub ∷ []) (rw (o, last)) (rw (o, last)) (rw (o, last)) (one-more sub) (next-place sub)
+        closes whole (passed .found ++ sub ∷ []) earlier (begun + 1) sound (endOf sub) (one-more sub)
+        (opens-on (Sub sub) e ∙ rw (last, append-nil))
 
     pub refused :
         (number : ℕ)
         → headerAt s at ≡ Bad number
-        → _≡_ {A = Opened} (record { number = number; at = at; count = count; subs = subs }) (answer whole)
-    refused number e =
-        let o = opens-on (Bad number) e in
-        closes whole _ _ _ _ (going .found) (rw o) (rw o) (rw (o, append-nil)) (going .many) (going .stands)
+        → _≡_ {A = Checked} (record { number = number; at = at; count = begun - earlier }) (checked whole)
+    refused number e = closes whole (passed .found) earlier begun number at (passed .many) (opens-on (Bad number) e)
 
-    pub past :
-        headerAt s at ≡ Past → _≡_ {A = Opened} (record { number = sound; at = at; count = count; subs = subs }) (answer whole)
-    past e =
-        let o = opens-on Past e in
-        closes whole _ _ _ _ (going .found) (rw o) (rw o) (rw (o, append-nil)) (going .many) (going .stands)
+    pub past : headerAt s at ≡ Past → _≡_ {A = Checked} (record { number = sound; at = at; count = begun - earlier }) (checked whole)
+    past e = closes whole (passed .found) earlier begun sound at (passed .many) (opens-on Past e)
+
+-- From `at` on, headers tell these sub-frames, one behind the other.
+abbrev pub Ahead : List ℕ → ℕ → List SubFrame → Type 0
+Ahead s at [] = Unit
+Ahead s at (sub ∷ subs) = (headerAt s at ≡ Sub sub) × Ahead s (endOf sub) subs
+
+module _ (s : List ℕ) where
+  ahead-sub :
+      (at : ℕ) (sub : SubFrame) (rest : Opening) (last : Bool)
+      → headerAt s at ≡ Sub sub
+      → Ahead s (endOf sub) (rest .subs)
+      → Ahead s at (before sub (cond last (stopped sound (endOf sub)) rest) .subs)
+  ahead-sub at sub rest true e next = (e, tt)
+  ahead-sub at sub rest false e next = (e, next)
+
+  ahead-on :
+      (at : ℕ) (h : Header) (rest : Opening) → headerAt s at ≡ h → Ahead s (endOfHeader h) (rest .subs) → Ahead s at (onwards h at rest .subs)
+  ahead-on at (Sub sub) rest e next = ahead-sub at sub rest (sub .last) e next
+  ahead-on at (Bad number) rest e next = tt
+  ahead-on at Past rest e next = tt
+
+  pub ahead : (room at : ℕ) → Ahead s at (scan room s at .subs)
+  unfolding scan
+  ahead zero at = tt
+  ahead (suc room) at = ahead-on at (headerAt s at) _ refl (ahead room (endOfHeader (headerAt s at)))
+
+  -- no more than may begin
+  few-sub :
+      (room : ℕ) (sub : SubFrame) (rest : Opening) (last : Bool)
+      → length (rest .subs) ≤ room
+      → length (before sub (cond last (stopped sound (endOf sub)) rest) .subs) ≤ suc room
+  few-sub room sub rest true fits = omega arith
+  few-sub room sub rest false fits = omega arith
+
+  few-on : (room at : ℕ) (h : Header) (rest : Opening) → length (rest .subs) ≤ room → length (onwards h at rest .subs) ≤ suc room
+  few-on room at (Sub sub) rest fits = few-sub room sub rest (sub .last) fits
+  few-on room at (Bad number) rest fits = omega arith
+  few-on room at Past rest fits = omega arith
+
+  pub few : (room at : ℕ) → length (scan room s at .subs) ≤ room
+  unfolding scan
+  few zero at = omega arith
+  few (suc room) at = few-on room at (headerAt s at) _ (few room (endOfHeader (headerAt s at)))
+
+  -- the same of an opened frame
+  pub opens-ahead : Ahead s 0 (opening s .subs)
+  opens-ahead = opening-holds s (λ (o : Opening). Ahead s 0 (o .subs)) (λ number at. tt) (ahead mostSubFrames 0)
+
+  pub opens-few : length (opening s .subs) ≤ mostSubFrames
+  opens-few =
+      opening-holds s (λ (o : Opening). length (o .subs) ≤ mostSubFrames) (λ number at. omega arith) (few mostSubFrames 0)

@@ -6,11 +6,14 @@
 --   octet 1b      payload length                    exactly when LI is 1
 --   payload
 use Prim.Native.Nat.{ℕ, _+_, _-_, _*_, _/_, _%_}
-use mathlib.Core.List.{List}
-use mathlib.Core.Bool.{true, false, cond}
+use mathlib.Core.Path.{_≡_}
+use mathlib.Core.List.{List, [], _∷_}
+use mathlib.Core.Bool.{Bool, false, cond}
 use lib.Dec.{ltb, eqb}
 use lib.ListN.{length, getD, drop}
 use Rattle.refusal.specs.Numbers.{headerCut, cidReserved, spareBitSet, lengthPastField, lastWithLength}
+use Rattle.refusal.specs.Order.{_gives_, inOrder}
+use Rattle.frame.specs.declared.header.SubFrame.{SubFrame}
 use Rattle.frame.specs.declared.header.Header.{Header}
 use Rattle.frame.specs.declared.header.Header.the-variants.{Sub, Bad, Past}
 
@@ -52,20 +55,57 @@ octet1b f = getD f (ei (octet1 f) + li (octet1 f)) 0
 abbrev pub cidOf : ℕ → ℕ → ℕ
 cidOf o a = highBits a * 64 + lowBits o
 
--- What the octets o, a and b of a header tell, with n octets from its first one on, which stands at `at`: the refusals in
--- the order 3, 4, 5, 6, 7; LI is 0 on the last sub-frame, and "the last payload is all that remains".
+-- "LI is 1 on all sub-frames but the last."
+abbrev pub isLast : ℕ → Bool
+isLast o = eqb (li o) 0
+
+-- The sub-frame that the octets o, a and b of a header tell, with n octets from its first one on, which stands at `at`: "the
+-- last payload is all that remains".
+abbrev pub subOf : ℕ → ℕ → ℕ → ℕ → ℕ → SubFrame
+subOf at o a b n =
+    record {
+      cid = cidOf o a;
+      ptype = payloadType a;
+      start = at + size o;
+      len = cond (isLast o) (n - size o) b;
+      last = isLast o;
+    }
+
+-- a test that is for all sub-frames but some
+infix 85 _unless_
+abbrev pub _unless_ : Bool → Bool → Bool
+test unless exempt = cond exempt false test
+
+-- What these octets tell: the refusals in the order 3, 4, 5, 6, 7, or the sub-frame.
 unfoldable pub told : ℕ → ℕ → ℕ → ℕ → ℕ → Header
 told at o a b n =
-    cond (ltb n (size o)) (Bad headerCut) (cond (ltb (cidOf o a) 4) (Bad cidReserved)
-    (cond (eqb (spare a) 0)
-    (cond (eqb (li o) 0)
-    (Sub (record { cid = cidOf o a; ptype = payloadType a; start = at + size o; len = n - size o; last = true }))
-    (cond (ltb (n - size o) b) (Bad lengthPastField) (cond (eqb (n - size o) b) (Bad lastWithLength)
-    (Sub (record { cid = cidOf o a; ptype = payloadType a; start = at + size o; len = b; last = false })))))
-    (Bad spareBitSet)))
+    inOrder
+    (ltb n (size o) gives headerCut
+    ∷ ltb (cidOf o a) 4 gives cidReserved
+    ∷ ltb 0 (spare a) gives spareBitSet
+    ∷ ltb (n - size o) b unless isLast o gives lengthPastField
+    ∷ eqb (n - size o) b unless isLast o gives lastWithLength
+    ∷ [])
+    Bad
+    (Sub (subOf at o a b n))
 
 -- The header whose first octet stands at `at` in the frame s.
 unfoldable pub headerAt : List ℕ → ℕ → Header
 headerAt s at =
     let f = drop at s in
     cond (ltb at (length s)) (told at (octet1 f) (octet1a f) (octet1b f) (length f)) Past
+
+-- no sub-frame
+abbrev pub unused : SubFrame
+unused = record { cid = 0; ptype = 0; start = 0; len = 0; last = false }
+
+-- The sub-frame whose header stands at `at`, where headers are known to be sound: what `headerAt` tells, without its tests. An
+-- octet past the end is 0.
+unfoldable pub subAt : List ℕ → ℕ → SubFrame
+subAt s at =
+    let f = drop at s in
+    cond (ltb at (length s)) (subOf at (octet1 f) (octet1a f) (octet1b f) (length f)) unused
+
+-- Where `headerAt` tells a sub-frame, it is that one. Proved in proofs/HeaderInverse.antt.
+abbrev pub SubAtTells : Type 0
+SubAtTells = (s : List ℕ) (at : ℕ) (sub : SubFrame) → headerAt s at ≡ Sub sub → subAt s at ≡ sub

@@ -6,6 +6,7 @@ use mathlib.Core.Bool.{Bool, true, false, cond}
 use lib.Dec.{ltb, eqb}
 use lib.ListN.{length}
 use Rattle.refusal.specs.Numbers.{cidReserved, valueOutOfRange, roomTooSmall}
+use Rattle.refusal.specs.Order.{_gives_, inOrder}
 use Rattle.octets.specs.declared.Put.{Put}
 use Rattle.octets.specs.declared.Put.the-variants.{Written, NotWritten}
 
@@ -32,17 +33,17 @@ unfoldable pub headerSize : ℕ → ℕ → Bool → ℕ
 headerSize cid ptype last = 1 + eiFor cid ptype + liFor last
 
 -- A sub-frame as it is joined.
-pub record Content : Type 0 where
+pub record Member : Type 0 where
   pub cid : ℕ
   pub ptype : ℕ
   pub payload : List ℕ
 
-abbrev pub isNone : List Content → Bool
+abbrev pub isNone : List Member → Bool
 isNone [] = true
 isNone (c ∷ cs) = false
 
 -- The frame that holds these sub-frames, in order, each header in its shortest form.
-unfoldable pub joined : List Content → List ℕ
+unfoldable pub joined : List Member → List ℕ
 joined [] = []
 joined (c ∷ cs) = shortestHeader (c .cid) (c .ptype) (isNone cs) (length (c .payload)) ++ c .payload ++ joined cs
 
@@ -50,6 +51,10 @@ joined (c ∷ cs) = shortestHeader (c .cid) (c .ptype) (isNone cs) (length (c .p
 -- type beyond its four bits, or 21 for the header alone.
 unfoldable pub headerPut : ℕ → ℕ → ℕ → ℕ → Bool → Put
 headerPut left at cid ptype last =
-    cond (ltb cid 4) (NotWritten cidReserved)
-    (cond (ltb 15 ptype) (NotWritten valueOutOfRange)
-    (cond (ltb left (headerSize cid ptype last)) (NotWritten roomTooSmall) (Written (at + headerSize cid ptype last))))
+    inOrder
+    (ltb cid 4 gives cidReserved
+    ∷ ltb 15 ptype gives valueOutOfRange
+    ∷ ltb left (headerSize cid ptype last) gives roomTooSmall
+    ∷ [])
+    NotWritten
+    (Written (at + headerSize cid ptype last))

@@ -1,4 +1,3 @@
 pub mod Header
 pub mod Opening
 pub mod Joining
-pub mod Checking

@@ -2,15 +2,18 @@
 -- holding 1 to 64 sub-frames. "Order: 1, 2, then per sub-frame 8, 3, 4, 5, 6, 7."
 use Prim.Native.Nat.{ℕ, zero, suc, _+_, _-_}
 use mathlib.Core.List.{List, [], _∷_, _++_}
-use mathlib.Core.Bool.{false, cond}
+use mathlib.Core.Bool.{cond}
 use lib.Dec.{ltb, eqb}
 use lib.ListN.{length, replicate}
 use Rattle.refusal.specs.Numbers.{sound, fieldEmpty, fieldTooLong, tooManySubFrames}
+use Rattle.refusal.specs.Order.{_gives_, inOrder}
 use Rattle.frame.specs.declared.header.SubFrame.{SubFrame}
 use Rattle.frame.specs.declared.header.Header.{Header}
 use Rattle.frame.specs.declared.header.Header.the-variants.{Sub, Bad, Past}
 use Rattle.frame.specs.declared.opening.Opened.{Opened}
+use Rattle.frame.specs.declared.opening.Checked.{Checked}
 use Rattle.frame.specs.Header.{headerAt}
+pub use Rattle.frame.specs.Header.{unused}
 
 abbrev pub mostOctets : ℕ
 mostOctets = 1600
@@ -55,9 +58,9 @@ scan (suc room) s at = onwards (headerAt s at) at (scan room s (endOfHeader (hea
 -- the whole field: 1, then 2, then the sub-frames
 unfoldable pub scanned : List ℕ → Opening
 scanned s =
-    cond (eqb (length s) 0) (stopped fieldEmpty 0)
-    (cond (ltb mostOctets (length s)) (stopped fieldTooLong 0)
-    (scan mostSubFrames s 0))
+    inOrder (eqb (length s) 0 gives fieldEmpty ∷ ltb mostOctets (length s) gives fieldTooLong ∷ [])
+    (λ number. stopped number 0)
+    (scan mostSubFrames s 0)
 
 -- "1 to 8 refuse the whole frame: number, offset .., no sub-frame."
 abbrev pub allOrNone : Opening → Opening
@@ -66,9 +69,9 @@ allOrNone o = cond (eqb (o .number) sound) o (stopped (o .number) (o .at))
 unfoldable pub opening : List ℕ → Opening
 opening s = allOrNone (scanned s)
 
--- an unused place of the answer
-abbrev pub unused : SubFrame
-unused = record { cid = 0; ptype = 0; start = 0; len = 0; last = false }
+-- a scan without the list of its sub-frames: how many
+abbrev pub checked : Opening → Checked
+checked o = record { number = o .number; at = o .at; count = length (o .subs) }
 
 -- the answer of the code: the sub-frames stand in 64 places
 abbrev pub answer : Opening → Opened

@@ -8,7 +8,7 @@ use native.Mathlib.Omega.{arith}
 use lib.Dec.{eqb}
 use lib.ListN.{length, replicate}
 use Rattle.octets.specs.Octets.{Octets}
-use Rattle.frame.specs.Joining.{Content, isNone, joined, eiFor, liFor, shortestHeader}
+use Rattle.frame.specs.Joining.{Member, isNone, joined, eiFor, liFor, shortestHeader}
 use Rattle.frame.proofs.HeaderWritten.{ei-one-of}
 use Rattle.framing.specs.Claims.{Carriable, Each, Fits, PayloadOctets, JoinedOctets, content, fullest}
 
@@ -37,7 +37,7 @@ li-bit : (last : Bool) → liFor last ≤ 1
 li-bit true = omega arith
 li-bit false = omega arith
 
-header-octets : (c : Content) (last : Bool) → Carriable c last → Octets (shortestHeader (c .cid) (c .ptype) last (length (c .payload)))
+header-octets : (c : Member) (last : Bool) → Carriable c last → Octets (shortestHeader (c .cid) (c .ptype) last (length (c .payload)))
 unfolding shortestHeader
 header-octets c last fits =
     let e : ℕ = eiFor (c .cid) (c .ptype) in
@@ -49,7 +49,7 @@ header-octets c last fits =
     (octets-append ext len (ext-octets e (c .cid / 64 * 64 + c .ptype) bit (omega (arith, fits .small, fits .four-bits)))
     (len-octets last (length (c .payload)) (fits .short)))
 
-each-octets : (cs : List Content) → Each cs → PayloadOctets cs → Octets (joined cs)
+each-octets : (cs : List Member) → Each cs → PayloadOctets cs → Octets (joined cs)
 unfolding joined
 each-octets [] each payloads = octets-none
 each-octets (c ∷ cs) each payloads =
@@ -61,7 +61,7 @@ each-octets (c ∷ cs) each payloads =
 pub joined-octets : JoinedOctets
 joined-octets cs fits payloads = each-octets cs (fits .each) payloads
 
-each-many : (n : ℕ) (c d : Content) → ((last : Bool) → Carriable c last) → Carriable d true → Each (replicate n c ++ d ∷ [])
+each-many : (n : ℕ) (c d : Member) → ((last : Bool) → Carriable c last) → Carriable d true → Each (replicate n c ++ d ∷ [])
 each-many zero c d hc hd = (hd, tt)
 each-many (suc n) c d hc hd = (hc (isNone (replicate n c ++ d ∷ [])), each-many n c d hc hd)
 

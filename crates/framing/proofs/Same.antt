@@ -14,7 +14,7 @@ use Rattle.frame.specs.declared.header.SubFrame.{SubFrame}
 use Rattle.frame.specs.declared.header.Header.the-variants.{Sub}
 use Rattle.frame.specs.Header.{headerAt}
 use Rattle.frame.specs.Opening.{Opening, scan, scanned, before, stopped, endOf}
-use Rattle.frame.specs.Joining.{Content, isNone, joined, eiFor, liFor, headerWith, shortestHeader, headerSize}
+use Rattle.frame.specs.Joining.{Member, isNone, joined, eiFor, liFor, headerWith, shortestHeader, headerSize}
 use Rattle.frame.proofs.HeaderWritten.{ei-one-of, ei-out, ei-set, size-is, some-room}
 use Rattle.frame.proofs.OpeningTurns as turns
 use Rattle.framing.specs.Claims.{Each, Fits, contentOf, OpensToTheSame}
@@ -54,14 +54,14 @@ unfolding scan
 scan-on F room at sub e = rw e
 
 -- what is joined has an octet
-joined-some : (d : Content) (ds : List Content) → 1 ≤ length (joined (d ∷ ds))
+joined-some : (d : Member) (ds : List Member) → 1 ≤ length (joined (d ∷ ds))
 unfolding joined
 joined-some d ds =
     let one : 1 ≤ headerSize (d .cid) (d .ptype) (isNone ds) = some-room (d .cid) (d .ptype) (isNone ds) in
     simp (length-append, size-is) (omega arith)
 
 same-from :
-    (F : List ℕ) (cs : List Content) (room at : ℕ)
+    (F : List ℕ) (cs : List Member) (room at : ℕ)
     → Each cs
     → 1 ≤ length cs
     → length cs ≤ room
@@ -92,7 +92,7 @@ same-from F (c ∷ d ∷ ds) (suc room) at each some most stands =
     (ap (λ (o : Opening). o .number) on ∙ more .0, ap (λ (o : Opening). map (contentOf F) (o .subs)) on ∙ rw (content, more .1))
 
 -- the tests for 1 and 2 are passed
-scans : (cs : List Content) → Fits cs → scanned (joined cs) ≡ scan 64 (joined cs) 0
+scans : (cs : List Member) → Fits cs → scanned (joined cs) ≡ scan 64 (joined cs) 0
 scans [] fits = absurd (not-suc-le-zero (fits .some))
 scans (c ∷ cs) fits = turns.scans (joined (c ∷ cs)) (λ none. omega (arith, joined-some c cs)) (fits .whole)
 

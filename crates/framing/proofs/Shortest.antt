@@ -17,7 +17,7 @@ use Rattle.frame.specs.declared.header.SubFrame.{SubFrame}
 use Rattle.frame.specs.declared.header.Header.the-variants.{Sub}
 use Rattle.frame.specs.Header.{ei, octet1, headerAt}
 use Rattle.frame.specs.Opening.{Opening, scan, scanned, opening, before, stopped, endOf}
-use Rattle.frame.specs.Joining.{Content, isNone, joined, eiFor, liFor, headerWith, shortestHeader, headerSize}
+use Rattle.frame.specs.Joining.{Member, isNone, joined, eiFor, liFor, headerWith, shortestHeader, headerSize}
 use Rattle.frame.proofs.HeaderWritten.{ei-one-of, with-size, size-is}
 use Rattle.frame.proofs.HeaderInverse as inverse
 use Rattle.frame.proofs.HeaderCases as cases
@@ -37,12 +37,12 @@ record From (s : List ℕ) (room at : ℕ) (subs : List SubFrame) : Type 0 where
 never : {A : Type 0} → true ≡ false → A
 never z = absurd (subst T z tt)
 
-not-none : (cs : List Content) → 1 ≤ length cs → isNone cs ≡ false
+not-none : (cs : List Member) → 1 ≤ length cs → isNone cs ≡ false
 not-none [] some = absurd (not-suc-le-zero some)
 not-none (c ∷ cs) some = refl
 
 joined-length :
-    (c : Content) (cs : List Content)
+    (c : Member) (cs : List Member)
     → length (joined (c ∷ cs)) ≡ headerSize (c .cid) (c .ptype) (isNone cs) + length (c .payload) + length (joined cs)
 unfolding joined
 joined-length c cs = simp (length-append, size-is)
@@ -98,7 +98,7 @@ module _ (s : List ℕ) (octets : Octets s) where
         (length-append payload (drop (endOf sub) s) ∙ ap₂ (λ (x y : ℕ). x + y) payload-length (length-drop (endOf sub) s))
         ∙ ap (λ (x : ℕ). 1 + ei x + liFor (sub .last) + (sub .len + (length s - endOf sub))) (made.first-is s octets at sub read)
 
-    module _ (cs : List Content) (w : ℕ) (final : isNone cs ≡ sub .last)
+    module _ (cs : List Member) (w : ℕ) (final : isNone cs ≡ sub .last)
         (longer : length s - endOf sub ≡ length (joined cs) + w) (same-rest : w ≡ 0 → drop (endOf sub) s ≡ joined cs) where
       size-is-told : headerSize (sub .cid) (sub .ptype) (isNone cs) ≡ 1 + eiFor (sub .cid) (sub .ptype) + liFor (sub .last)
       unfolding headerSize
@@ -208,5 +208,5 @@ as-long-as-joined s octets good =
 pub one-shortest : OneShortest
 one-shortest s cs octets good is =
     let long = as-long-as-joined s octets good in
-    let same : length (joined (list s)) ≡ length (joined cs) = ap (λ (l : List Content). length (joined l)) is in
+    let same : length (joined (list s)) ≡ length (joined cs) = ap (λ (l : List Member). length (joined l)) is in
     (omega (arith, long .longer), λ equal. long .same (omega (arith, long .longer)) ∙ ap joined is)

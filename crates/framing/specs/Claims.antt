@@ -12,32 +12,32 @@ use Rattle.refusal.specs.Numbers.{sound}
 use Rattle.frame.specs.declared.header.SubFrame.{SubFrame}
 use Rattle.frame.specs.Header.{ei}
 use Rattle.frame.specs.Opening.{opening, endOf}
-use Rattle.frame.specs.Joining.{Content, isNone, joined, eiFor}
+use Rattle.frame.specs.Joining.{Member, isNone, joined, eiFor}
 
 -- CIDs 4 to 255, types 0 to 15, a payload of at most 255 octets unless it is the last.
-pub record Carriable (c : Content) (last : Bool) : Type 0 where
+pub record Carriable (c : Member) (last : Bool) : Type 0 where
   pub free : 4 ≤ c .cid
   pub small : c .cid ≤ 255
   pub four-bits : c .ptype ≤ 15
   pub short : last ≡ false → length (c .payload) ≤ 255
 
-abbrev pub Each : List Content → Type 0
+abbrev pub Each : List Member → Type 0
 Each [] = Unit
 Each (c ∷ cs) = Carriable c (isNone cs) × Each cs
 
 -- A list that fits a frame: 1 to 64 sub-frames, 1,600 octets in all.
-pub record Fits (cs : List Content) : Type 0 where
+pub record Fits (cs : List Member) : Type 0 where
   pub some : 1 ≤ length cs
   pub most : length cs ≤ 64
   pub each : Each cs
   pub whole : length (joined cs) ≤ 1600
 
 -- What a sub-frame of the frame s holds.
-abbrev pub contentOf : List ℕ → SubFrame → Content
+abbrev pub contentOf : List ℕ → SubFrame → Member
 contentOf s sub = record { cid = sub .cid; ptype = sub .ptype; payload = take (sub .len) (drop (sub .start) s) }
 
 -- The list that a frame opens to.
-abbrev pub list : List ℕ → List Content
+abbrev pub list : List ℕ → List Member
 list s = map (contentOf s) (opening s .subs)
 
 -- A sound frame.
@@ -46,7 +46,7 @@ Sound s = opening s .number ≡ sound
 
 -- What is joined opens to the same list.
 abbrev pub OpensToTheSame : Type 0
-OpensToTheSame = (cs : List Content) → Fits cs → Sound (joined cs) × (list (joined cs) ≡ cs)
+OpensToTheSame = (cs : List Member) → Fits cs → Sound (joined cs) × (list (joined cs) ≡ cs)
 
 -- How many of the sub-frames that begin at `at` have an octet 1a that they do not need: EI is 1, the CID is below 64 and the
 -- type is 0.
@@ -67,23 +67,23 @@ AsLongAsJoined = (s : List ℕ) → Octets s → Sound s → Longer s
 -- So the joined form is the shortest, and the only one of its length.
 abbrev pub OneShortest : Type 0
 OneShortest =
-    (s : List ℕ) (cs : List Content)
+    (s : List ℕ) (cs : List Member)
     → Octets s
     → Sound s
     → list s ≡ cs
     → (length (joined cs) ≤ length s) × (length s ≡ length (joined cs) → s ≡ joined cs)
 
 -- What is joined is octets, where the payloads are.
-abbrev pub PayloadOctets : List Content → Type 0
+abbrev pub PayloadOctets : List Member → Type 0
 PayloadOctets [] = Unit
 PayloadOctets (c ∷ cs) = Octets (c .payload) × PayloadOctets cs
 
 abbrev pub JoinedOctets : Type 0
-JoinedOctets = (cs : List Content) → Fits cs → PayloadOctets cs → Octets (joined cs)
+JoinedOctets = (cs : List Member) → Fits cs → PayloadOctets cs → Octets (joined cs)
 
 -- A list for which the hypotheses are met: 64 sub-frames, 1,600 octets in all (proofs/Octets.antt, `fullest-fits`).
-abbrev pub content : ℕ → ℕ → List ℕ → Content
+abbrev pub content : ℕ → ℕ → List ℕ → Member
 content cid ptype payload = record { cid = cid; ptype = ptype; payload = payload }
 
-abbrev pub fullest : List Content
+abbrev pub fullest : List Member
 fullest = replicate 63 (content 5 0 (replicate 23 0)) ++ content 200 4 (replicate 23 0) ∷ []

@@ -1,123 +1,128 @@
 -- `frame::header::header_at` meets its contract: at each return the tests that led there say which case of `told` holds.
-use mathlib.Core.Path.{_≡_, refl, sym, _∙_}
-use Prim.Native.Nat.{_+_, _-_}
+use mathlib.Core.Path.{sym}
+use mathlib.Core.Logic.{⊎-elim}
+use Prim.Native.Nat.{_≤_}
 use borrow.Author.Needs.{needs}
+use lib.ListN.{length}
 use native.Mathlib.Omega.{arith}
-use lib.ListN.{length, getD}
-use Rattle.frame.specs.Header.{ei, li, told, headerAt}
 use Rattle.frame.proofs.HeaderCases as cases
+use Rattle.frame.proofs.HeaderRead as header
 use Rattle.frame.proofs.header.header_at.Statement.{statement}
 use Rattle.frame.proofs.header.header_at.Tie as tie
-
--- what is told, once the octets are read
-read :
-    (c : tie.After-octet-where)
-    → let a = c .before .before .before .before .before .before .args in
-    let s = a .frame .now in
-    let o = getD s (a .at) 0 in
-    headerAt s (a .at) ≡ told (a .at) o (c .octet-where .result) (getD s (a .at + ei o + li o) 0) (length s - a .at)
-read c =
-    let a = c .before .before .before .before .before .before .args in
-    cases.told-at (a .frame .now) (a .at) (c .octet-where .result) (c .before .before .before .before .if1 .left)
-    (omega (arith, c .before .before .before .shared-slice-known2 .given (a .at)))
-    (c .octet-where .ensures)
 
 returns : tie.Need-returns
 returns c = let a = c .before .before .args in sym (cases.nothing (a .frame .now) (a .at) (c .if1 .taken))
 
+-- octet 1a was read, or is not there
+way :
+    (c : tie.Joined2)
+    → let a = c .before .before .before .before .args in
+    header.Way (a .frame .now) (a .at) (c .if2 .octet1a) (c .if2 .next)
+way c =
+    let a = c .before .before .before .before .args in
+    let octet = c .before .shared-slice-known2 .given (a .at) in
+    ⊎-elim (λ w. header.with-1a (a .frame .now) (a .at) (w .0 .taken) (omega (arith, octet)) (w .3) (w .4))
+    (λ w. header.without-1a (a .frame .now) (a .at) (w .0 .left) (w .1) (w .2))
+    (c .if2 .came)
+
+within : (c : tie.Joined2) → c .if2 .next ≤ length (c .before .before .before .before .args .frame .now)
+within c = ⊎-elim (λ w. omega (arith, w .1 .left, w .4)) (λ w. omega (arith, w .2, c .before .before .if1 .left)) (c .if2 .came)
+
+begun :
+    (c : tie.After-reserved)
+    → let j = c .before .before .before .before in
+    let a = j .before .before .before .before .args in
+    header.Begun (a .frame .now) (a .at) (j .if2 .octet1a) (j .if2 .next) (c .before .before .cid-of .result)
+begun c =
+    let j = c .before .before .before .before in
+    record { here = j .before .before .if1 .left; way = way j; cid-is = c .before .before .cid-of .ensures }
+
 shared-slice-read-octet1 : tie.Need-shared-slice-read-octet1
 shared-slice-read-octet1 c = search needs
 
-cast-ei : tie.Need-cast-ei
-cast-ei c = omega (arith, c .shared-slice-known2 .given (c .before .before .before .args .at))
-
-cast-li : tie.Need-cast-li
-cast-li c = search needs
-
-sub-left : tie.Need-sub-left
-sub-left c = search needs
-
-add-size : tie.Need-add-size
-add-size c = omega (arith, c .shared-slice-known2 .given (c .before .before .before .args .at))
-
-add-size-2 : tie.Need-add-size-2
-add-size-2 c = omega (arith, c .shared-slice-known2 .given (c .before .before .before .args .at))
+add-next : tie.Need-add-next
+add-next c = search needs
 
 returns-2 : tie.Need-returns-2
 returns-2 c =
-    let a = c .before .before .before .before .args in
-    sym
-    (cases.told-at (a .frame .now) (a .at) _ (c .before .before .if1 .left)
-    (omega (arith, c .before .shared-slice-known2 .given (a .at)))
-    refl
-    ∙ cases.cut _ _ _ _ _ (c .if2 .taken))
+    let a = c .before .before .before .before .before .args in
+    header.no-1a (a .frame .now) (a .at) (c .before .if2 .taken) (c .before .before .before .if1 .left) (c .if3 .taken)
 
-add-octet-where : tie.Need-add-octet-where
-add-octet-where c = search needs
+shared-slice-read-octet1a : tie.Need-shared-slice-read-octet1a
+shared-slice-read-octet1a c = search needs
 
-shared-slice-read-octet-where : tie.Need-shared-slice-read-octet-where
-shared-slice-read-octet-where c = search needs
+add-next-2 : tie.Need-add-next-2
+add-next-2 c = search needs
 
-octet-where-requires : tie.Need-octet-where-requires
-octet-where-requires c κs = search needs
+sub-left : tie.Need-sub-left
+sub-left c = within (c .before)
 
-add-octet1b : tie.Need-add-octet1b
-add-octet1b c = search needs
+cid-of-requires : tie.Need-cid-of-requires
+cid-of-requires c κs = search needs
 
-add-octet1b-2 : tie.Need-add-octet1b-2
-add-octet1b-2 c = search needs
-
-shared-slice-read-octet1b : tie.Need-shared-slice-read-octet1b
-shared-slice-read-octet1b c = search needs
-
-cast-octet1b : tie.Need-cast-octet1b
-cast-octet1b c =
-    let a = c .before .before .before .before .before .before .before .args in
-    let o = getD (a .frame .now) (a .at) 0 in
-    omega (arith, c .shared-slice-known4 .given (a .at + ei o + li o))
-
-mul-cid : tie.Need-mul-cid
-mul-cid c = search needs
-
-add-cid : tie.Need-add-cid
-add-cid c = search needs
+reserved-requires : tie.Need-reserved-requires
+reserved-requires c κs = search needs
 
 returns-3 : tie.Need-returns-3
 returns-3 c =
-    sym (read (c .before .before) ∙ cases.reserved _ _ _ _ _ (c .before .before .before .before .if2 .left) (c .if3 .taken))
+    let r = c .before .before in
+    let known = r .reserved .ensures in
+    let room = within (r .before .before .before .before) in
+    header.last-refused (begun r) room known (c .before .if4 .taken) (c .if5 .taken)
 
 returns-4 : tie.Need-returns-4
 returns-4 c =
-    sym
-    (read (c .before .before .before)
-    ∙ cases.spare-set _ _ _ _ _ (c .before .before .before .before .before .if2 .left) (c .before .if3 .left) (c .if4 .taken))
-
-add-start : tie.Need-add-start
-add-start c = search needs
+    let r = c .before .before in
+    let known = r .reserved .ensures in
+    let room = within (r .before .before .before .before) in
+    header.last-one (begun r) room known (c .before .if4 .taken) (c .if5 .left)
 
 returns-5 : tie.Need-returns-5
 returns-5 c =
-    sym
-    (read (c .before .before .before .before)
-    ∙ cases.last-one _ _ _ _ _ (c .before .before .before .before .before .before .if2 .left) (c .before .before .if3 .left) (c .before .if4 .left) (c .if5 .taken))
+    let r = c .before .before in
+    let known = r .reserved .ensures in
+    let room = within (r .before .before .before .before) in
+    header.cut (begun r) room (c .before .if4 .left) (c .if6 .taken)
 
 returns-6 : tie.Need-returns-6
 returns-6 c =
-    sym
-    (read (c .before .before .before .before .before)
-    ∙ cases.goes-on _ _ _ _ _ (c .before .before .before .before .before .before .before .if2 .left) (c .before .before .before .if3 .left) (c .before .before .if4 .left) (c .before .if5 .left) (c .if6 .taken))
+    let r = c .before .before .before in
+    let known = r .reserved .ensures in
+    let room = within (r .before .before .before .before) in
+    header.more-refused (begun r) room known (c .before .before .if4 .left) (c .before .if6 .left) (c .if7 .taken)
+
+shared-slice-read-len : tie.Need-shared-slice-read-len
+shared-slice-read-len c = search needs
+
+cast-len : tie.Need-cast-len
+cast-len c = omega (arith, c .shared-slice-known4 .given (c .before .before .before .before .before .before .before .before .if2 .next))
+
+sub-rest : tie.Need-sub-rest
+sub-rest c = search needs
+
+add-t24 : tie.Need-add-t24
+add-t24 c = search needs
 
 returns-7 : tie.Need-returns-7
 returns-7 c =
-    sym
-    (read (c .before .before .before .before .before .before)
-    ∙ cases.past _ _ _ _ _ (c .before .before .before .before .before .before .before .before .if2 .left) (c .before .before .before .before .if3 .left) (c .before .before .before .if4 .left) (c .before .before .if5 .left) (c .if7 .taken))
+    let r = c .before .before .before .before .before in
+    let known = r .reserved .ensures in
+    let room = within (r .before .before .before .before) in
+    header.another (begun r) room known (c .before .before .before .before .if4 .left) (c .before .before .before .if6 .left) (c .before .before .if7 .left) (c .if8 .taken)
 
 returns-8 : tie.Need-returns-8
 returns-8 c =
-    sym
-    (read (c .before .before .before .before .before .before)
-    ∙ cases.ends-there _ _ _ _ _ (c .before .before .before .before .before .before .before .before .if2 .left) (c .before .before .before .before .if3 .left) (c .before .before .before .if4 .left) (c .before .before .if5 .left) (c .before .if6 .left) (c .if7 .left))
+    let r = c .before .before .before .before .before .before in
+    let known = r .reserved .ensures in
+    let room = within (r .before .before .before .before) in
+    header.past (begun r) room known (c .before .before .before .before .before .if4 .left) (c .before .before .before .before .if6 .left) (c .before .before .before .if7 .left) (c .if9 .taken)
+
+returns-9 : tie.Need-returns-9
+returns-9 c =
+    let r = c .before .before .before .before .before .before in
+    let known = r .reserved .ensures in
+    let room = within (r .before .before .before .before) in
+    header.ends (begun r) room known (c .before .before .before .before .before .if4 .left) (c .before .before .before .before .if6 .left) (c .before .before .before .if7 .left) (c .if9 .left) (c .before .if8 .left)
 
 pub header-at-spec : {M : Type 1} → statement M
 header-at-spec =
@@ -125,25 +130,21 @@ header-at-spec =
     (tie.spec
     returns
     shared-slice-read-octet1
-    cast-ei
-    cast-li
-    sub-left
-    add-size
-    add-size-2
+    add-next
     returns-2
-    add-octet-where
-    shared-slice-read-octet-where
-    octet-where-requires
-    add-octet1b
-    add-octet1b-2
-    shared-slice-read-octet1b
-    cast-octet1b
-    mul-cid
-    add-cid
+    shared-slice-read-octet1a
+    add-next-2
+    sub-left
+    cid-of-requires
+    reserved-requires
     returns-3
     returns-4
-    add-start
     returns-5
     returns-6
+    shared-slice-read-len
+    cast-len
+    sub-rest
+    add-t24
     returns-7
-    returns-8)
+    returns-8
+    returns-9)

@@ -1,92 +1,76 @@
--- `frame::opening::check` meets its contract: each turn passes one sub-frame, and what stops the loop stops the scan.
-use Prim.Native.Nat.{_-_}
+-- `frame::opening::check` meets its contract: it hands on what the scan tells, and of a refused one its number and place.
+use Prim.Native.Nat.{ℕ}
+use mathlib.Core.Path.{_≡_, sym, ap, _∙_}
+use mathlib.Core.List.{List}
 use borrow.Author.Needs.{needs}
-use mathlib.Core.Path.{subst}
-use Rattle.frame.specs.Checking.{StepAt}
-use Rattle.frame.proofs.CheckingTurns as turns
+use native.Mathlib.Omega.{arith}
+use lib.ListN.{length}
+use Rattle.frame.specs.declared.opening.Checked.{Checked}
+use Rattle.frame.specs.Opening.{Opening, scanned, opening, checked}
+use Rattle.frame.proofs.OpeningTurns as turns
 use Rattle.frame.proofs.opening.check.Statement.{statement}
 use Rattle.frame.proofs.opening.check.Tie as tie
 
-abbrev Inv-loop : tie.InvT-loop
-Inv-loop frame at₀ count₀ at count = turns.Passing frame at count
+-- an answer in its three numbers
+parts :
+    (r : Checked) (s : List ℕ)
+    → r ≡ checked (opening s)
+    → (r .number ≡ opening s .number) × ((r .at ≡ opening s .at) × (r .count ≡ length (opening s .subs)))
+parts r s e = (ap (λ (c : Checked). c .number) e, (ap (λ (c : Checked). c .at) e, ap (λ (c : Checked). c .count) e))
 
-abbrev μ-loop : tie.MeasureT-loop
-μ-loop frame at₀ count₀ at count = 64 - count
+-- the scan is what was checked
+scanned-is : (c : tie.After-scan-from) → c .scan-from .result ≡ checked (scanned (c .before .before .before .before .args .frame .now))
+scanned-is c = c .scan-from .ensures ∙ ap checked (sym (turns.scans _ (c .before .before .if1 .left) (c .before .if2 .left)))
 
-returns : tie.Need-returns Inv-loop μ-loop
-returns c = turns.empty (c .before .before .args .frame .now) (c .if1 .taken)
+refused-requires : tie.Need-refused-requires
+refused-requires c κs = search needs
 
-returns-2 : tie.Need-returns-2 Inv-loop μ-loop
-returns-2 c = turns.long (c .before .before .before .args .frame .now) (c .before .if1 .left) (c .if2 .taken)
+returns : tie.Need-returns
+returns c =
+    let e = turns.empty (c .before .before .before .args .frame .now) (c .before .if1 .taken) in
+    parts _ _
+    (c .refused .ensures
+    ∙ ap checked
+    (turns.refused-opens _ _ _ (sym (ap (λ (o : Opening). o .number) e)) (sym (ap (λ (o : Opening). o .at) e)) (λ z. omega (arith, z))))
 
-loop-holds : tie.Need-loop-holds Inv-loop μ-loop
-loop-holds c = turns.begins (c .before .before .before .args .frame .now) (c .before .if1 .left) (c .if2 .left)
+refused-requires-2 : tie.Need-refused-requires-2
+refused-requires-2 c κs = search needs
 
-add-count : tie.Need-add-count Inv-loop μ-loop
-add-count c = search needs
+returns-2 : tie.Need-returns-2
+returns-2 c =
+    let e = turns.long (c .before .before .before .before .args .frame .now) (c .before .before .if1 .left) (c .before .if2 .taken) in
+    parts _ _
+    (c .refused2 .ensures
+    ∙ ap checked
+    (turns.refused-opens _ _ _ (sym (ap (λ (o : Opening). o .number) e)) (sym (ap (λ (o : Opening). o .at) e)) (λ z. omega (arith, z))))
 
-step-at-requires : tie.Need-step-at-requires Inv-loop μ-loop
-step-at-requires c κs = c .before .loop .inv .here
+scan-from-requires : tie.Need-scan-from-requires
+scan-from-requires c κs = search needs
 
-enum-known-next : tie.Need-enum-known-next Inv-loop μ-loop
-enum-known-next c = search needs
-
-loop-less : tie.Need-loop-less Inv-loop μ-loop
-loop-less c = search needs
-
-loop-again : tie.Need-loop-again Inv-loop μ-loop
-loop-again c =
-    let told = c .before .next .given in
-    let stepped = c .before .before .before in
-    let test = stepped .before in
-    let l = test .before in
-    let s = l .before .before .before .before .args .frame .now in
-    turns.turn s (l .loop .inv) (test .loop-test .taken) (told .0 .0) (subst (StepAt s (l .loop .at)) (told .1) (stepped .step-at .ensures))
-
-enum-told : tie.Need-enum-told Inv-loop μ-loop
-enum-told c = search needs
-
-returns-3 : tie.Need-returns-3 Inv-loop μ-loop
+returns-3 : tie.Need-returns-3
 returns-3 c =
-    let stepped = c .before .before in
-    let test = stepped .before in
-    let l = test .before in
-    let s = l .before .before .before .before .args .frame .now in
-    turns.done s (l .loop .inv) (test .loop-test .taken) (subst (StepAt s (l .loop .at)) (c .enum-told .given .1) (stepped .step-at .ensures))
+    let e = scanned-is (c .before .before) in
+    parts _ _ (e ∙ ap checked (sym (turns.sound-is _ (sym (ap (λ (r : Checked). r .number) e) ∙ c .if3 .taken))))
 
-enum-known-number : tie.Need-enum-known-number Inv-loop μ-loop
-enum-known-number c = search needs
+refused-requires-3 : tie.Need-refused-requires-3
+refused-requires-3 c κs = search needs
 
-returns-4 : tie.Need-returns-4 Inv-loop μ-loop
+returns-4 : tie.Need-returns-4
 returns-4 c =
-    let told = c .before .number .given in
-    let stepped = c .before .before .before in
-    let test = stepped .before in
-    let l = test .before in
-    let s = l .before .before .before .before .args .frame .now in
-    turns.flaw s (l .loop .inv) (test .loop-test .taken) (told .0 .0) (subst (StepAt s (l .loop .at)) (told .1) (stepped .step-at .ensures))
-
-returns-5 : tie.Need-returns-5 Inv-loop μ-loop
-returns-5 c =
-    let l = c .before in
-    turns.full (l .before .before .before .before .args .frame .now) (l .loop .inv) (c .loop-test .left)
+    let e = scanned-is (c .before .before .before) in
+    parts _ _
+    (c .refused3 .ensures
+    ∙ ap checked (turns.refused-opens _ _ _ (ap (λ (r : Checked). r .number) e) (ap (λ (r : Checked). r .at) e) (c .before .if3 .left)))
 
 pub check-spec : {M : Type 1} → statement M
 check-spec =
     tie.close
     (tie.spec
-    Inv-loop
-    μ-loop
+    refused-requires
     returns
+    refused-requires-2
     returns-2
-    loop-holds
-    add-count
-    step-at-requires
-    enum-known-next
-    loop-less
-    loop-again
-    enum-told
+    scan-from-requires
     returns-3
-    enum-known-number
-    returns-4
-    returns-5)
+    refused-requires-3
+    returns-4)

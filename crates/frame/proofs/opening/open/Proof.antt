@@ -1,27 +1,77 @@
--- `frame::opening::open` meets its contract: a sound scan is handed out whole, and of any other its number and place.
-use mathlib.Core.Path.{sym, ap, ap₂, _∙_}
-use Prim.Native.Nat.{ℕ}
+-- `frame::opening::open` meets its contract: the headers that were checked tell the sub-frames, one a turn.
+use Prim.Native.Nat.{_-_, _<_}
 use borrow.Author.Needs.{needs}
-use Rattle.frame.specs.declared.opening.Opened.{Opened}
-use Rattle.frame.specs.Opening.{answer, stopped}
-use Rattle.frame.proofs.OpeningTurns as turns
+use native.Mathlib.Omega.{arith}
+use mathlib.Core.Path.{sym, ap, _∙_}
+use lib.ListN.{length}
+use Rattle.frame.specs.declared.header.Header.the-variants.{Sub}
+use Rattle.frame.specs.Opening.{opening}
+use Rattle.frame.proofs.HeaderInverse as inverse
+use Rattle.frame.proofs.OpeningList as list
 use Rattle.frame.proofs.opening.open.Statement.{statement}
 use Rattle.frame.proofs.opening.open.Tie as tie
 
-scan-requires : tie.Need-scan-requires
-scan-requires c κs = search needs
+abbrev Inv-loop : tie.InvT-loop
+Inv-loop frame found count subs₀ at₀ i₀ subs at i = list.Listed frame subs at i
 
-returns : tie.Need-returns
+abbrev μ-loop : tie.MeasureT-loop
+μ-loop frame found count subs₀ at₀ i₀ subs at i = count - i
+
+-- a turn begins where there are more
+less :
+    (c : tie.In-loop Inv-loop μ-loop)
+    → c .before .loop .i < length (opening (c .before .before .before .before .args .frame .now) .subs)
+less c = omega (arith, c .loop-test .taken, c .before .before .check .ensures .1 .1)
+
+check-requires : tie.Need-check-requires Inv-loop μ-loop
+check-requires c κs = search needs
+
+loop-holds : tie.Need-loop-holds Inv-loop μ-loop
+loop-holds c = list.begins _
+
+sub-at-requires : tie.Need-sub-at-requires Inv-loop μ-loop
+sub-at-requires c κs = search needs
+
+mul-subs : tie.Need-mul-subs Inv-loop μ-loop
+mul-subs c = omega (arith, list.room (c .before .before .loop .inv) (less (c .before)))
+
+array-set-from-subs : tie.Need-array-set-from-subs Inv-loop μ-loop
+array-set-from-subs c = list.room (c .before .before .loop .inv) (less (c .before))
+
+add-at : tie.Need-add-at Inv-loop μ-loop
+add-at c =
+    let l = c .before .before .before in
+    let told = list.told (l .loop .inv) (less (c .before .before)) ∙ ap Sub (sym (c .before .sub-at .ensures)) in
+    omega (arith, inverse.ends-within _ _ _ told, l .before .before .before .good)
+
+add-i : tie.Need-add-i Inv-loop μ-loop
+add-i c = search needs
+
+loop-less : tie.Need-loop-less Inv-loop μ-loop
+loop-less c = search needs
+
+loop-again : tie.Need-loop-again Inv-loop μ-loop
+loop-again c =
+    list.turn (c .before .before .before .loop .inv) (less (c .before .before)) (c .before .sub-at .result) (c .before .sub-at .ensures)
+
+returns : tie.Need-returns Inv-loop μ-loop
 returns c =
-    let found = c .before .scan in
-    found .ensures ∙ sym (ap answer (turns.sound-is _ (sym (ap (λ (o : Opened). o .number) (found .ensures)) ∙ c .if1 .taken)))
-
-returns-2 : tie.Need-returns-2
-returns-2 c =
-    let found = c .before .scan in
-    let number = ap (λ (o : Opened). o .number) (found .ensures) in
-    ap₂ (λ (n p : ℕ). answer (stopped n p)) number (ap (λ (o : Opened). o .at) (found .ensures))
-    ∙ sym (ap answer (turns.refused-is _ (λ z. c .if1 .left (number ∙ z))))
+    let e = c .before .before .check .ensures in
+    list.done (c .before .loop .inv) (omega (arith, c .loop-test .left, e .1 .1)) _ _ _ (e .0) (e .1 .0) (e .1 .1)
 
 pub open-spec : {M : Type 1} → statement M
-open-spec = tie.close (tie.spec scan-requires returns returns-2)
+open-spec =
+    tie.close
+    (tie.spec
+    Inv-loop
+    μ-loop
+    check-requires
+    loop-holds
+    sub-at-requires
+    mul-subs
+    array-set-from-subs
+    add-at
+    add-i
+    loop-less
+    loop-again
+    returns)
