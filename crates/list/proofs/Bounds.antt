@@ -11,13 +11,13 @@ use Rattle.refusal.specs.Numbers.{roomTooSmall}
 use Rattle.octets.specs.declared.Put.{Put}
 use Rattle.octets.specs.declared.Put.the-variants.{Written, NotWritten}
 use Rattle.octets.specs.Room.{written, leftBy}
-use Rattle.lines.specs.declared.stream.Begun.{Begun}
-use Rattle.lines.specs.declared.stream.Listed.{Listed}
-use Rattle.lines.specs.Listing.{listed}
-use Rattle.lines.specs.Pieces.{textEnd}
-use Rattle.lines.specs.Stream.{pieceListed, answer, lastListed}
-use Rattle.lines.proofs.Ends as ends
-use Rattle.lines.proofs.StreamTurns as turns
+use Rattle.recording.specs.declared.stream.Begun.{Begun}
+use Rattle.listing.specs.declared.stream.Listed.{Listed}
+use Rattle.listing.specs.Listing.{listed}
+use Rattle.recording.specs.Pieces.{textEnd}
+use Rattle.listing.specs.Stream.{pieceListed, answer, lastListed}
+use Rattle.recording.proofs.Ends as ends
+use Rattle.listing.proofs.StreamTurns as turns
 
 place : (t : Bool) (end next : ℕ) → Written next ≡ cond t (NotWritten roomTooSmall) (Written end) → next ≡ end
 place true end next e = let z : _≡_ {A = ℕ} 0 1 = cc in absurd (omega arith)

@@ -1,8 +1,8 @@
 // The listing program (document 01, "Listing program"): a recording from standard input, its listing to standard output. It reads,
-// has the crate `lines` list, and prints, in fixed memory.
-use lines::stream::Begun;
+// has the crate `listing` list, and prints, in fixed memory.
 use octets::Put;
 use provisioning::text::TextAnswer;
+use recording::stream::Begun;
 ghost use Prim.Native.Nat.{_≤_};
 ghost use lib.ListN.{length};
 
@@ -11,7 +11,7 @@ fn print(out: &[u8], used: usize)
     requires { ⌜ used ≤ length (now out) ⌝ }
 {
     if !io::write_all(libc::STDOUT_FILENO, &out[..used]) {
-        io::write_all(libc::STDERR_FILENO, b"listing: a write failed\n");
+        io::write_all(libc::STDERR_FILENO, b"list: a write failed\n");
     }
 }
 
@@ -26,7 +26,7 @@ fn list_all(
     let mut stands = begun;
     let mut at: usize = 0;
     while at < piece.len() {
-        let listed = lines::stream::list_piece(&piece[at..], stands, kept, table, out);
+        let listed = listing::stream::list_piece(&piece[at..], stands, kept, table, out);
         print(out, listed.used);
         stands = Begun {
             have: listed.have,
@@ -65,7 +65,7 @@ fn list_more(
 
 // Lists a last line that lacks its LF.
 fn finish(begun: Begun, kept: &[u8], table: &[u16; 256], out: &mut [u8]) {
-    let used = lines::stream::list_last(begun, kept, table, out);
+    let used = listing::stream::list_last(begun, kept, table, out);
     print(out, used);
 }
 
@@ -90,16 +90,16 @@ fn list_rest(
 fn main() {
     let mut input = io::large_buffer();
     let mut out = io::large_buffer();
-    let mut kept = [0u8; lines::stream::MOST_KEPT];
+    let mut kept = [0u8; recording::stream::MOST_KEPT];
     let mut table = [0u16; 256];
     let n = io::read_full(libc::STDIN_FILENO, &mut input);
-    let end = lines::pieces::text_end(&input[..n]);
+    let end = recording::pieces::text_end(&input[..n]);
     match provisioning::text::read_text(&input[..end], &mut table) {
         TextAnswer::Taken(_) => {
             list_rest(&mut input, end, n, &mut kept, &table, &mut out);
         }
         TextAnswer::Refused { number, line } => {
-            match lines::listing::list_text(&mut out, 0, number, line) {
+            match listing::listing::list_text(&mut out, 0, number, line) {
                 Put::Written(next) => {
                     print(&out, next);
                 }

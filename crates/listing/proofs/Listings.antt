@@ -12,6 +12,7 @@ use lib.Seq.{take-suc, take-at}
 use Rattle.refusal.specs.Numbers.{sound, roomTooSmall}
 use Rattle.octets.specs.declared.Put.the-variants.{Written, NotWritten}
 use Rattle.octets.specs.Room.{written, leftBy}
+use Rattle.recording.proofs.LineCases as cases
 use Rattle.recording.proofs.LineCases.{Fair}
 use Rattle.frame.specs.declared.header.SubFrame.{SubFrame}
 use Rattle.frame.specs.Opening.{endOf, opening}
@@ -20,7 +21,7 @@ use Rattle.record.specs.Record.{foundAt}
 use Rattle.payload.specs.Content.{payloadRead, numberOf}
 use Rattle.octets.specs.Text.{ascii}
 use Rattle.recording.specs.declared.line.Read.{Read}
-use Rattle.recording.specs.Line.{Held, octets, refused, lineRead, readOf, octetsOf}
+use Rattle.recording.specs.Line.{Held, octets, refused, lineRead, inRoom, readOf, octetsOf}
 use Rattle.listing.specs.Listing.{fourFields, numberFor, subListing, subsListing, refusedListing, openedListing, frameListing, readListing, lineListing, field, listed}
 use Rattle.listing.specs.Private.{Appended, listingOf}
 
@@ -58,32 +59,34 @@ subs-more table s subs i d h =
     ∙ ap (subsListing table s) (sym next)
 
 -- room for a listing, or not
-module _ (out text : List ℕ) (at : ℕ) {short : Bool} (tells : short ≡ ltb (length out) (at + 6709)) where
-  pub no-room : short ≡ true → (NotWritten roomTooSmall ≡ listed out at text) × (out ≡ leftBy (NotWritten roomTooSmall) out at text)
-  unfolding listed
-  no-room h = (simp (sym tells ∙ h), refl)
-
+module _ (out : List ℕ) (at : ℕ) {short : Bool} (tells : short ≡ ltb (length out) (at + 6709)) where
   pub room : short ≡ false → at + 6709 ≤ length out
   room h = ltb-false (length out) (at + 6709) (sym tells ∙ h)
 
-  pub stands :
-      short ≡ false
-      → {after : List ℕ} {most next : ℕ}
-      → Appended out at text most after next
-      → (Written next ≡ listed out at text) × (after ≡ leftBy (Written next) out at text)
-  unfolding listed
-  stands h p = (simp (sym tells ∙ h) (ap Written (p .ends)), p .holds)
+  module _ (text : List ℕ) where
+    pub no-room : short ≡ true → (NotWritten roomTooSmall ≡ listed out at text) × (out ≡ leftBy (NotWritten roomTooSmall) out at text)
+    unfolding listed
+    no-room h = (simp (sym tells ∙ h), refl)
+
+    pub stands :
+        short ≡ false
+        → {after : List ℕ} {most next : ℕ}
+        → Appended out at text most after next
+        → (Written next ≡ listed out at text) × (after ≡ leftBy (Written next) out at text)
+    unfolding listed
+    stands h p = (simp (sym tells ∙ h) (ap Written (p .ends)), p .holds)
 
 -- a frame's listing, by what checking it tells
-module _ (n : ℕ) (table s : List ℕ) {number at count : ℕ} (tells : number ≡ opening s .number) where
+module _ (n : ℕ) (table s : List ℕ) {number : ℕ} (tells : number ≡ opening s .number) where
   pub of-sound :
-      count ≡ length (opening s .subs)
+      {count : ℕ}
+      → count ≡ length (opening s .subs)
       → number ≡ sound
       → field (ascii "frame=") n ++ field (ascii "subs=") count ++ subsListing table s (opening s .subs) ≡ frameListing n table s
   unfolding openedListing
   of-sound c h = rw c (simp (eq-eqb (opening s .number) sound (sym tells ∙ h)))
 
-  pub of-refused : at ≡ opening s .at → (number ≡ sound → ⊥) → refusedListing n number at ≡ frameListing n table s
+  pub of-refused : {at : ℕ} → at ≡ opening s .at → (number ≡ sound → ⊥) → refusedListing n number at ≡ frameListing n table s
   unfolding openedListing
   of-refused a h = rw (tells, a) (simp (ne-eqb (opening s .number) sound (λ z. h (tells ∙ z))))
 
@@ -103,3 +106,15 @@ pub of-held :
 of-held n table frame (octets s) fair =
     ap (frameListing n table) (take-at s (drop (0 + length s) frame) (length s) refl)
 of-held n table frame (refused number) fair = simp (ne-eqb number sound fair)
+
+-- a line, by what `read_line` answers in room for 1,600 octets
+pub of-line :
+    (n : ℕ) (table frame line : List ℕ) {read : Read} {after : List ℕ}
+    → 1600 ≤ length frame
+    → read ≡ readOf (inRoom (length frame) (lineRead line))
+    → after ≡ written frame 0 (octetsOf (inRoom (length frame) (lineRead line)))
+    → listingOf n table read after ≡ lineListing n table line
+unfolding lineListing
+of-line n table frame line room says holds =
+    let held : inRoom (length frame) (lineRead line) ≡ lineRead line = cases.in-room (length frame) (lineRead line) room (cases.fair line) in
+    rw (says, holds, held) (of-held n table frame (lineRead line) (cases.fair line))

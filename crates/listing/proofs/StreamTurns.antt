@@ -4,7 +4,7 @@ use mathlib.Core.Path.{_≡_, refl, sym, ap, _∙_}
 use mathlib.Core.List.{List, [], _∷_, _++_, append-assoc, append-nil}
 use mathlib.Core.Bool.{Bool, true, false, cond}
 use native.Mathlib.Omega.{arith}
-use borrow.Author.Tests.{lt-ltb, le-ltb, ltb-false, eq-eqb, ne-eqb}
+use borrow.Author.Tests.{lt-ltb, le-ltb, eq-eqb, ne-eqb}
 use lib.Dec.{ltb}
 use lib.ListN.{length, take, drop, length-drop, drop-of-length-le}
 use lib.Seq.{drop-drop}
@@ -15,7 +15,7 @@ use Rattle.octets.specs.Room.{written, leftBy}
 use Rattle.octets.specs.Text.{hasLf}
 use Rattle.recording.specs.declared.stream.Begun.{Begun}
 use Rattle.recording.specs.declared.stream.Taken.{Taken}
-use Rattle.recording.specs.Line.{Held, octets, refused, lineRead, inRoom, readOf, octetsOf}
+use Rattle.recording.specs.Line.{Held, octets, lineRead, inRoom, readOf, octetsOf}
 use Rattle.recording.specs.Pieces.{lineSize}
 use Rattle.recording.specs.Stream.{lineOf, heldBy, nextOf, keptBehind}
 use Rattle.recording.specs.Stream.{taken as lineTaken}
@@ -23,7 +23,7 @@ use Rattle.recording.proofs.Ends as ends
 use Rattle.recording.proofs.Keeping as keeping
 use Rattle.recording.proofs.LineCases as cases
 use Rattle.listing.specs.declared.stream.Listed.{Listed}
-use Rattle.listing.specs.Listing.{readListing, lineListing, listed}
+use Rattle.listing.specs.Listing.{lineListing, listed}
 use Rattle.listing.specs.Stream.{Walk, stopped, before, nextListing, walk, answer, lastListed, linesListed, pieceListed}
 use Rattle.listing.specs.Private.{Appended, listingOf}
 use Rattle.listing.proofs.Appending as appending
@@ -35,28 +35,20 @@ module _ (frame table : List ℕ) (begun : Begun) (kept piece : List ℕ) where
       (t : Bool)
       → 1600 ≤ length frame
       → cond t (listingOf (begun .number) table (readOf (cond t (inRoom (length frame) (lineRead (lineOf (begun .have) kept piece))) (octets [])))
-          (written frame 0 (octetsOf (cond t (inRoom (length frame) (lineRead (lineOf (begun .have) kept piece))) (octets []))))) []
+      (written frame 0 (octetsOf (cond t (inRoom (length frame) (lineRead (lineOf (begun .have) kept piece))) (octets []))))) []
       ≡ cond t (lineListing (begun .number) table (lineOf (begun .have) kept piece)) []
-  unfolding lineListing
-  text-is true room =
-      let line = lineOf (begun .have) kept piece in
-      rw (cases.in-room (length frame) (lineRead line) room (cases.fair line)) (listings.of-held (begun .number) table frame (lineRead line) (cases.fair line))
+  text-is true room = listings.of-line (begun .number) table frame (lineOf (begun .have) kept piece) room refl refl
   text-is false room = refl
 
   fits : (t : Bool) (held : Held) → readOf (cond t (inRoom (length frame) held) (octets [])) .octets ≤ length frame
-  fits true (octets s) = go (ltb (length frame) (length s)) refl
-    where
-      go : (u : Bool) → ltb (length frame) (length s) ≡ u → readOf (cond u (refused 21) (octets s)) .octets ≤ length frame
-      go true e = omega arith
-      go false e = ltb-false (length frame) (length s) e
-  fits true (refused number) = omega arith
+  fits true held = cases.fits (length frame) held
   fits false held = omega arith
 
   module _ (line : Taken) (is : line ≡ lineTaken (length frame) begun kept piece) where
-    pub octets-fit : line .read .octets ≤ length frame
+    octets-fit : line .read .octets ≤ length frame
     octets-fit = rw is (fits (hasLf piece) (lineRead (lineOf (begun .have) kept piece)))
 
-    pub listing-is :
+    listing-is :
         {after : List ℕ}
         → 1600 ≤ length frame
         → after ≡ written frame 0 (octetsOf (heldBy (length frame) (begun .have) kept piece))
@@ -172,6 +164,9 @@ module _ {table out₀ piece : List ℕ} {whole : Walk} {kept out : List ℕ} {b
 
       size-is : line .size ≡ lineSize (drop at piece)
       size-is = ap (λ (l : Taken). l .size) tells
+
+      pub fits-frame : line .read .octets ≤ length frame
+      fits-frame = octets-fit frame table begun kept (drop at piece) line tells
 
       pub within : at + line .size ≤ length piece
       within = omega (arith, size-is, ends.size-within (drop at piece), length-drop at piece)

@@ -22,7 +22,14 @@ pub struct Listed {
 }
 
 // A line that is taken from a piece, where it is whole, as the frame number n.
-fn put_taken(out: &mut [u8], at: usize, n: u64, table: &[u16; 256], line: Taken, frame: &[u8]) -> usize
+fn put_taken(
+    out: &mut [u8],
+    at: usize,
+    n: u64,
+    table: &[u16; 256],
+    line: Taken,
+    frame: &[u8],
+) -> usize
     requires { ⌜ at + 6709 ≤ length (now out) ⌝ }
     requires { ⌜ line .read .octets ≤ length (now frame) ⌝ }
     requires { ⌜ length (now frame) ≤ 1600 ⌝ }

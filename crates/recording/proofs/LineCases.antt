@@ -6,7 +6,8 @@ use mathlib.Core.Logic.{⊎-elim}
 use mathlib.Core.Bool.{Bool, true, false}
 use native.Mathlib.Nat.{le-trans}
 use native.Mathlib.Omega.{arith}
-use borrow.Author.Tests.{lt-ltb, le-ltb, eq-eqb, ne-eqb}
+use borrow.Author.Tests.{lt-ltb, le-ltb, ltb-false, eq-eqb, ne-eqb}
+use lib.Dec.{ltb}
 use lib.ListN.{length, getD, take, drop, length-take, length-drop, drop-of-length-le}
 use Rattle.refusal.specs.Numbers.{sound, fieldTooLong, hexMalformed, roomTooSmall}
 use Rattle.refusal.specs.Order.{_or_}
@@ -183,3 +184,7 @@ module _ (line : List ℕ) where
 pub in-room : (room : ℕ) (held : Held) → 1600 ≤ room → Fair held → inRoom room held ≡ held
 in-room room (octets s) h fair = simp (le-ltb room (length s) (le-trans fair h))
 in-room room (refused number) h fair = refl
+
+pub fits : (room : ℕ) (held : Held) → readOf (inRoom room held) .octets ≤ room
+fits room (octets s) = either (λ e. rw e (omega arith)) (λ e. rw e (ltb-false room (length s) e)) (ltb room (length s)) refl
+fits room (refused number) = omega arith

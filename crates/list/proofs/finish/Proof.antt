@@ -1,9 +1,9 @@
--- `listing::finish` is safe: what is listed lies within the room.
-use Rattle.listing.proofs.Bounds as bounds
+-- `list::finish` is safe: what is listed lies within the room.
+use Rattle.list.proofs.Bounds as bounds
 use lib.ListN.{length}
 use borrow.Author.Needs.{needs}
-use Rattle.listing.proofs.finish.Statement.{statement}
-use Rattle.listing.proofs.finish.Tie as tie
+use Rattle.list.proofs.finish.Statement.{statement}
+use Rattle.list.proofs.finish.Tie as tie
 
 list-last-requires : tie.Need-list-last-requires
 list-last-requires c κs = search needs

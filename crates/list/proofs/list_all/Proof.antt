@@ -1,12 +1,12 @@
--- `listing::list_all` is safe and ends: each turn takes an octet or more of the piece.
-use Rattle.listing.proofs.Bounds as bounds
+-- `list::list_all` is safe and ends: each turn takes an octet or more of the piece.
+use Rattle.list.proofs.Bounds as bounds
 use lib.ListN.{length}
 use native.Mathlib.Omega.{arith}
 use Prim.Native.Nat.{_-_, _≤_}
 use mathlib.Core.Path.{_≡_}
 use borrow.Author.Needs.{needs}
-use Rattle.listing.proofs.list_all.Statement.{statement}
-use Rattle.listing.proofs.list_all.Tie as tie
+use Rattle.list.proofs.list_all.Statement.{statement}
+use Rattle.list.proofs.list_all.Tie as tie
 
 abbrev Inv-loop : tie.InvT-loop
 Inv-loop piece kept₀ table out₀ stands₀ at₀ kept out stands at = (at ≤ length piece) × ((length kept ≡ length kept₀) × (length out ≡ length out₀))

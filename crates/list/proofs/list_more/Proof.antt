@@ -1,9 +1,9 @@
--- `listing::list_more` is safe and ends: the turns are counted down.
+-- `list::list_more` is safe and ends: the turns are counted down.
 use mathlib.Core.Path.{_≡_}
 use lib.ListN.{length}
 use borrow.Author.Needs.{needs}
-use Rattle.listing.proofs.list_more.Statement.{statement}
-use Rattle.listing.proofs.list_more.Tie as tie
+use Rattle.list.proofs.list_more.Statement.{statement}
+use Rattle.list.proofs.list_more.Tie as tie
 
 abbrev Inv-loop : tie.InvT-loop
 Inv-loop input₀ kept₀ table out₀ stands₀ turns₀ input kept out stands turns = (length input ≡ length input₀) × ((length kept ≡ length kept₀) × (length out ≡ length out₀))

@@ -1,11 +1,11 @@
--- `listing::main` is safe: the text ends within what was read.
+-- `list::main` is safe: the text ends within what was read.
 use mathlib.Core.Path.{sym}
 use lib.Seq.{length-take-le}
 use native.Mathlib.Omega.{arith}
-use Rattle.listing.proofs.Bounds as bounds
+use Rattle.list.proofs.Bounds as bounds
 use borrow.Author.Needs.{needs}
-use Rattle.listing.proofs.main.Statement.{statement}
-use Rattle.listing.proofs.main.Tie as tie
+use Rattle.list.proofs.main.Statement.{statement}
+use Rattle.list.proofs.main.Tie as tie
 
 large-buffer-requires : tie.Need-large-buffer-requires
 large-buffer-requires c κs = search needs

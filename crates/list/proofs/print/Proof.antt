@@ -1,9 +1,9 @@
--- `listing::print` is safe: what is listed lies within the room.
+-- `list::print` is safe: what is listed lies within the room.
 use mathlib.Core.Path.{sym}
 use lib.Seq.{length-take-le}
 use borrow.Author.Needs.{needs}
-use Rattle.listing.proofs.print.Statement.{statement}
-use Rattle.listing.proofs.print.Tie as tie
+use Rattle.list.proofs.print.Statement.{statement}
+use Rattle.list.proofs.print.Tie as tie
 
 slice-aggregate-write-all : tie.Need-slice-aggregate-write-all
 slice-aggregate-write-all c =

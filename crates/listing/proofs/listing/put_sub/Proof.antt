@@ -1,6 +1,6 @@
 -- `listing::listing::put_sub` meets its contract: the number of its payload, and four fields.
-use Rattle.listing.proofs.Listings as listings
 use borrow.Author.Needs.{needs}
+use Rattle.listing.proofs.Listings as listings
 use Rattle.listing.proofs.listing.put_sub.Statement.{statement}
 use Rattle.listing.proofs.listing.put_sub.Tie as tie
 

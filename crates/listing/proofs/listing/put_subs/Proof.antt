@@ -1,38 +1,41 @@
--- `listing::listing::put_subs` meets its contract: each turn puts one sub-frame more.
-use Rattle.listing.proofs.SubsTurns as turns
-use Prim.Native.Nat.{_-_, _*_, _≤_}
+-- `listing::listing::put_subs` meets its contract: each turn puts the sub-frame whose header is next.
+use Prim.Native.Nat.{_-_, _<_}
 use native.Mathlib.Omega.{arith}
-use lib.ListN.{take}
-use Rattle.frame.specs.Opening.{opening}
-use Rattle.listing.specs.Private.{Appended}
-use Rattle.listing.specs.Listing.{subsListing}
+use lib.ListN.{length}
 use borrow.Author.Needs.{needs}
+use Rattle.frame.specs.Opening.{opening}
+use Rattle.listing.proofs.SubsTurns as turns
 use Rattle.listing.proofs.listing.put_subs.Statement.{statement}
 use Rattle.listing.proofs.listing.put_subs.Tie as tie
 
 abbrev Inv-loop : tie.InvT-loop
-Inv-loop out₀ at table frame count subs next₀ i₀ out next i = (i ≤ count) × Appended out₀ at (subsListing table frame (take i (opening frame .subs))) (104 * i) out next
+Inv-loop out₀ at table frame count next₀ place₀ i₀ out next place i = turns.Going table frame out₀ out at next place i
 
 abbrev μ-loop : tie.MeasureT-loop
-μ-loop out₀ at table frame count subs next₀ i₀ out next i = count - i
+μ-loop out₀ at table frame count next₀ place₀ i₀ out next place i = count - i
 
 loop-holds : tie.Need-loop-holds Inv-loop μ-loop
 loop-holds c =
-    let a = c .before .before .before .args in (omega arith, turns.begins (a .table .now) (a .frame .now) (a .out .now) (a .at))
+    let a = c .before .before .args in turns.begins (a .table .now) (a .frame .now) (a .out .now) (a .at)
 
-mul-sub : tie.Need-mul-sub Inv-loop μ-loop
-mul-sub c =
-    omega (arith, turns.few (c .before .before .before .before .before .args .table .now) (c .before .before .before .before .before .args .frame .now) (c .before .before .before .before .before .args .opened) (c .before .before .before .before .before .pre .1))
-
-array-copy-out-sub : tie.Need-array-copy-out-sub Inv-loop μ-loop
-array-copy-out-sub c =
-    omega (arith, turns.few (c .before .before .before .before .before .args .table .now) (c .before .before .before .before .before .args .frame .now) (c .before .before .before .before .before .args .opened) (c .before .before .before .before .before .pre .1))
+sub-at-requires : tie.Need-sub-at-requires Inv-loop μ-loop
+sub-at-requires c κs = search needs
 
 put-sub-requires : tie.Need-put-sub-requires Inv-loop μ-loop
 put-sub-requires c κs =
+    let start = c .before .before .before .before .before .before in
+    let sub = c .before .sub-at in
     let l = c .before .before .before .loop in
-    let more = c .before .before .loop-test .taken in
-    (turns.room-left (c .before .before .before .before .before .before .before .args .table .now) (c .before .before .before .before .before .before .before .args .frame .now) (c .before .before .before .before .before .before .before .args .opened) (c .before .before .before .before .before .before .before .pre .1) (c .before .before .before .before .before .before .before .args .out .now) (l .out) (c .before .before .before .before .before .before .before .args .at) (l .next) (l .i) (c .before .before .before .before .before .before .before .pre .0) (l .inv .1) more, turns.within (c .before .before .before .before .before .before .before .args .table .now) (c .before .before .before .before .before .before .before .args .frame .now) (c .before .before .before .before .before .before .before .args .opened) (c .before .before .before .before .before .before .before .pre .1) (l .i) more)
+    let more : l .i < length (opening (start .args .frame .now) .subs) = omega (arith, c .before .before .loop-test .taken, start .pre .1 .1) in
+    (turns.room-left (l .inv) (start .pre .0) (sub .result) (sub .ensures) more, (turns.ends (l .inv) (start .pre .0) (sub .result) (sub .ensures) more, start .pre .1 .0))
+
+add-place : tie.Need-add-place Inv-loop μ-loop
+add-place c =
+    let start = c .before .before .before .before .before .before .before .before .before .before in
+    let sub = c .before .before .before .before .before .sub-at in
+    let l = c .before .before .before .before .before .before .before .loop in
+    let more : l .i < length (opening (start .args .frame .now) .subs) = omega (arith, c .before .before .before .before .before .before .loop-test .taken, start .pre .1 .1) in
+    omega (arith, turns.ends (l .inv) (start .pre .0) (sub .result) (sub .ensures) more, start .pre .1 .0)
 
 add-i : tie.Need-add-i Inv-loop μ-loop
 add-i c = search needs
@@ -42,19 +45,19 @@ loop-less c = search needs
 
 loop-again : tie.Need-loop-again Inv-loop μ-loop
 loop-again c =
-    let l = c .before .before .before .before .before .before .loop in
-    let more = c .before .before .before .before .before .loop-test .taken in
-    (omega arith, turns.turn (c .before .before .before .before .before .before .before .before .before .before .args .table .now) (c .before .before .before .before .before .before .before .before .before .before .args .frame .now) (c .before .before .before .before .before .before .before .before .before .before .args .opened) (c .before .before .before .before .before .before .before .before .before .before .pre .1) (c .before .before .before .before .before .before .before .before .before .before .args .out .now) (l .out) (c .before .before .before .before .before .before .before .before .before .before .args .at) (l .next) (l .i) (c .before .before .before .before .before .before .before .before .before .before .pre .0) (l .inv .1) _ _ more (c .before .before .put-sub .ensures))
+    let start = c .before .before .before .before .before .before .before .before .before .before in
+    let sub = c .before .before .before .before .before .sub-at in
+    let l = c .before .before .before .before .before .before .before .loop in
+    let more : l .i < length (opening (start .args .frame .now) .subs) = omega (arith, c .before .before .before .before .before .before .loop-test .taken, start .pre .1 .1) in
+    turns.turn (l .inv) (start .pre .0) (sub .result) (sub .ensures) more (c .before .before .before .put-sub .ensures)
 
 same-length : tie.Need-same-length Inv-loop μ-loop
 same-length c =
-    let l = c .before .loop in
-    turns.same-length (c .before .before .before .before .before .args .table .now) (c .before .before .before .before .before .args .frame .now) (c .before .before .before .before .before .args .opened) (c .before .before .before .before .before .pre .1) (c .before .before .before .before .before .args .out .now) (l .out) (c .before .before .before .before .before .args .at) (l .next) (l .i) (c .before .before .before .before .before .pre .0) (l .inv .1) (l .inv .0)
+    turns.same-length (c .before .loop .inv) (c .before .before .before .before .pre .0)
 
 returns : tie.Need-returns Inv-loop μ-loop
 returns c =
-    let l = c .before .loop in
-    turns.whole (c .before .before .before .before .before .args .table .now) (c .before .before .before .before .before .args .frame .now) (c .before .before .before .before .before .args .opened) (c .before .before .before .before .before .pre .1) (c .before .before .before .before .before .args .out .now) (l .out) (c .before .before .before .before .before .args .at) (l .next) (l .i) (c .before .before .before .before .before .pre .0) (l .inv .1) (l .inv .0) (c .loop-test .left)
+    turns.whole (c .before .loop .inv) (c .before .before .before .before .pre .0) (omega (arith, c .loop-test .left, c .before .before .before .before .pre .1 .1))
 
 pub put-subs-spec : {M : Type 1} → statement M
 put-subs-spec =
@@ -63,9 +66,9 @@ put-subs-spec =
     Inv-loop
     μ-loop
     loop-holds
-    mul-sub
-    array-copy-out-sub
+    sub-at-requires
     put-sub-requires
+    add-place
     add-i
     loop-less
     loop-again
