@@ -1,8 +1,0 @@
-pub mod Decimal
-pub mod Field
-pub mod Hex
-pub mod Line
-pub mod Listing
-pub mod Pieces
-pub mod Stream
-pub mod Claims

@@ -1,0 +1,77 @@
+-- The loop of `put_subs`: after i turns the first i sub-frames stand, and the next header is at the place.
+use Prim.Native.Nat.{ℕ, suc, _+_, _*_, _<_, _≤_}
+use mathlib.Core.Path.{_≡_, sym, ap, subst, _∙_}
+use mathlib.Core.List.{List, _++_}
+use native.Mathlib.Omega.{arith}
+use native.Mathlib.Numerals.{add-one}
+use lib.ListN.{length, getD, take, drop}
+use lib.Seq.{take-all, drop-cons}
+use Rattle.frame.specs.declared.header.SubFrame.{SubFrame}
+use Rattle.frame.specs.declared.header.Header.the-variants.{Sub}
+use Rattle.frame.specs.Header.{headerAt, subAt}
+use Rattle.frame.specs.Opening.{endOf, opening}
+use Rattle.frame.proofs.HeaderInverse as inverse
+use Rattle.listing.specs.Listing.{subListing, subsListing}
+use Rattle.listing.specs.Private.{Appended}
+use Rattle.listing.proofs.Appending as appending
+use Rattle.listing.proofs.Chain as chain
+use Rattle.listing.proofs.Listings as listings
+use Rattle.recording.proofs.Keeping as keeping
+
+pub record Going (table s out₀ out : List ℕ) (at next place i : ℕ) : Type 0 where
+  pub within : i ≤ length (opening s .subs)
+  pub rest : chain.Chain s place (drop i (opening s .subs))
+  pub stands : Appended out₀ at (subsListing table s (take i (opening s .subs))) (104 * i) out next
+
+pub begins : (table s out : List ℕ) (at : ℕ) → Going table s out out at at 0 0
+unfolding subsListing
+begins table s out at =
+    record {
+      within = omega arith;
+      rest = chain.opening-fine s .chain;
+      stands = record { ends = omega arith; holds = sym (keeping.written-none out at); size = omega arith };
+    }
+
+pub few : (s : List ℕ) → length (opening s .subs) ≤ 64
+few s = chain.opening-fine s .few
+
+module _ {table s out₀ out : List ℕ} {at next place i : ℕ} (going : Going table s out₀ out at next place i) (room : at + 6656 ≤ length out₀) where
+  pub same-length : length out ≡ length out₀
+  same-length = appending.same-length (going .stands) (omega (arith, few s, going .within))
+
+  -- the sub-frame whose header is at the place
+  module _ (sub : SubFrame) (is : sub ≡ subAt s place) (more : i < length (opening s .subs)) where
+    links :
+        (headerAt s place ≡ Sub (getD (opening s .subs) i sub))
+        × ((endOf (getD (opening s .subs) i sub) ≤ length s) × chain.Chain s (endOf (getD (opening s .subs) i sub)) (drop (suc i) (opening s .subs)))
+    links = rw (drop-cons (opening s .subs) i sub more) at (going .rest)
+
+    this : sub ≡ getD (opening s .subs) i sub
+    this = is ∙ inverse.sub-at-tells s place (getD (opening s .subs) i sub) (links .0)
+
+    pub ends : endOf sub ≤ length s
+    ends = omega (arith, ap endOf this, links .1 .0)
+
+    pub room-left : next + 104 ≤ length out
+    room-left = omega (arith, few s, going .stands .ends, going .stands .size, same-length)
+
+    pub turn :
+        {after : List ℕ} {then : ℕ}
+        → Appended out next (subListing table s sub) 104 after then
+        → Going table s out₀ after at then (endOf sub) (i + 1)
+    turn {after} {then} one =
+        let text =
+        ap (λ (x : SubFrame). subsListing table s (take i (opening s .subs)) ++ subListing table s x) this
+        ∙ listings.subs-more table s (opening s .subs) i sub more
+        in
+        let both = appending.then (going .stands) one (omega (arith, few s)) in
+        record {
+          within = omega arith;
+          rest = rw (add-one i) (subst (λ (x : SubFrame). chain.Chain s (endOf x) (drop (suc i) (opening s .subs))) (sym this) (links .1 .1));
+          stands = appending.reads (appending.within both (104 * (i + 1)) (omega arith)) text;
+        }
+
+  pub whole : length (opening s .subs) ≤ i → Appended out₀ at (subsListing table s (opening s .subs)) 6656 out next
+  whole all =
+      let text = ap (subsListing table s) (take-all i (opening s .subs) all) in
+      appending.reads (appending.within (going .stands) 6656 (omega (arith, few s, going .within))) text

@@ -1,0 +1,119 @@
+-- `listing::stream::list_lines` meets its contract: each turn takes a line, or what the piece has of it.
+use Prim.Native.Nat.{_-_}
+use mathlib.Core.Path.{_≡_, refl, sym}
+use native.Mathlib.Omega.{arith}
+use lib.ListN.{length}
+use borrow.Author.Needs.{needs}
+use Rattle.listing.specs.Stream.{walk}
+use Rattle.listing.proofs.StreamTurns as turns
+use Rattle.listing.proofs.stream.list_lines.Statement.{statement}
+use Rattle.listing.proofs.stream.list_lines.Tie as tie
+
+abbrev Inv-loop : tie.InvT-loop
+Inv-loop piece kept₀ table out₀ stands₀ used₀ at₀ frame₀ kept out stands used at frame =
+    turns.Going table out₀ piece (walk (length piece) (length out₀) table 0 stands₀ kept₀ piece) kept out stands used at × ((length kept ≡ length kept₀) × (length frame ≡ 1600))
+
+abbrev μ-loop : tie.MeasureT-loop
+μ-loop piece kept₀ table out₀ stands₀ used₀ at₀ frame₀ kept out stands used at frame = length piece - at
+
+loop-holds : tie.Need-loop-holds Inv-loop μ-loop
+loop-holds c =
+    let a = c .before .before .before .args in (turns.begins (a .table .now) (a .out .now) (a .piece .now) (a .kept .now) (a .begun), (refl, refl))
+
+sub-if1 : tie.Need-sub-if1 Inv-loop μ-loop
+sub-if1 c = omega (arith, c .before .loop .inv .0 .room, turns.same-length (c .before .loop .inv .0))
+
+same-length : tie.Need-same-length Inv-loop μ-loop
+same-length c = c .before .before .loop .inv .1 .0
+
+same-length-2 : tie.Need-same-length-2 Inv-loop μ-loop
+same-length-2 c = turns.same-length (c .before .before .loop .inv .0)
+
+returns : tie.Need-returns Inv-loop μ-loop
+returns c = turns.short (c .before .before .loop .inv .0) (c .before .loop-test .taken) (c .if1 .taken)
+
+sub-take-line : tie.Need-sub-take-line Inv-loop μ-loop
+sub-take-line c = search needs
+
+part-take-line-start : tie.Need-part-take-line-start Inv-loop μ-loop
+part-take-line-start c = search needs
+
+part-take-line-end : tie.Need-part-take-line-end Inv-loop μ-loop
+part-take-line-end c = search needs
+
+slice-aggregate-take-line : tie.Need-slice-aggregate-take-line Inv-loop μ-loop
+slice-aggregate-take-line c = sym (c .before .before .before .before .before .loop .inv .1 .1)
+
+take-line-requires : tie.Need-take-line-requires Inv-loop μ-loop
+take-line-requires c κs = search needs
+
+slice-aggregate-put-taken : tie.Need-slice-aggregate-put-taken Inv-loop μ-loop
+slice-aggregate-put-taken c = omega (arith, c .before .before .before .before .before .take-line .kept .1 .1 .1 .0, c .before .before .before .before .before .before .before .before .before .before .before .loop .inv .1 .1)
+
+put-taken-requires : tie.Need-put-taken-requires Inv-loop μ-loop
+put-taken-requires c κs =
+    let l = c .before .before .before .before .before .before .before .before .before .before .before .loop in
+    let there = c .before .before .before .before .before .before .before .before .before .before .loop-test .taken in
+    let line = c .before .before .before .before .before .take-line in
+    let fits = turns.fits-frame (l .inv .0) there (l .frame) (line .result) (line .ensures .0) in
+    let same = line .kept .1 .1 .1 .0 in
+    (turns.room-left (l .inv .0) there (c .before .before .before .before .before .before .before .before .before .if1 .left), (omega (arith, fits, same), omega (arith, same, l .inv .1 .1)))
+
+add-at : tie.Need-add-at Inv-loop μ-loop
+add-at c =
+    let l = c .before .before .before .before .before .before .before .before .before .before .before .before .before .before .before .loop in
+    let there = c .before .before .before .before .before .before .before .before .before .before .before .before .before .before .loop-test .taken in
+    let line = c .before .before .before .before .before .before .before .before .before .take-line in
+    omega (arith, c .before .before .before .before .before .before .before .before .before .before .before .before .before .before .before .before .before .before .before .good .0 .0, turns.within (l .inv .0) there (l .frame) (line .result) (line .ensures .0))
+
+loop-less : tie.Need-loop-less Inv-loop μ-loop
+loop-less c =
+    let l = c .before .before .before .before .before .before .before .before .before .before .before .before .before .before .before .before .loop in
+    let there = c .before .before .before .before .before .before .before .before .before .before .before .before .before .before .before .loop-test .taken in
+    let line = c .before .before .before .before .before .before .before .before .before .before .take-line in
+    omega (arith, turns.within (l .inv .0) there (l .frame) (line .result) (line .ensures .0), turns.some-taken (l .inv .0) there (l .frame) (line .result) (line .ensures .0))
+
+loop-again : tie.Need-loop-again Inv-loop μ-loop
+loop-again c =
+    let l = c .before .before .before .before .before .before .before .before .before .before .before .before .before .before .before .before .loop in
+    let there = c .before .before .before .before .before .before .before .before .before .before .before .before .before .before .before .loop-test .taken in
+    let line = c .before .before .before .before .before .before .before .before .before .before .take-line in
+    let said = line .ensures in (
+      turns.turn (l .inv .0) there (l .frame) (line .result) (said .0) (omega (arith, l .inv .1 .1)) (c .before .before .before .before .before .before .before .before .before .before .before .before .before .before .if1 .left) (said .1 .0) (said .1 .1)
+          (c .before .before .before .before .put-taken .ensures),
+      (omega (arith, line .kept .1 .1 .0, l .inv .1 .0), omega (arith, line .kept .1 .1 .1 .0, l .inv .1 .1)),
+    )
+
+same-length-3 : tie.Need-same-length-3 Inv-loop μ-loop
+same-length-3 c = c .before .loop .inv .1 .0
+
+same-length-4 : tie.Need-same-length-4 Inv-loop μ-loop
+same-length-4 c = turns.same-length (c .before .loop .inv .0)
+
+returns-2 : tie.Need-returns-2 Inv-loop μ-loop
+returns-2 c = turns.all (c .before .loop .inv .0) (c .loop-test .left)
+
+pub list-lines-spec : {M : Type 1} → statement M
+list-lines-spec =
+    tie.close
+    (tie.spec
+    Inv-loop
+    μ-loop
+    loop-holds
+    sub-if1
+    same-length
+    same-length-2
+    returns
+    sub-take-line
+    part-take-line-start
+    part-take-line-end
+    slice-aggregate-take-line
+    take-line-requires
+    slice-aggregate-put-taken
+    put-taken-requires
+    add-at
+    loop-less
+    loop-again
+    same-length-3
+    same-length-4
+    returns-2)

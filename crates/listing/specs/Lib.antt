@@ -1,0 +1,5 @@
+pub mod Decimal
+pub mod Listing
+pub mod Stream
+pub mod Claims
+pub mod Private

@@ -1,0 +1,92 @@
+-- The listing (document 01, "Listing program"), as octets.
+use Prim.Native.Nat.{ℕ, zero, suc, _+_}
+use mathlib.Core.List.{List, [], _∷_, _++_}
+use mathlib.Core.Bool.{cond}
+use lib.Dec.{ltb, eqb}
+use lib.ListN.{length, take, drop}
+use Rattle.refusal.specs.Numbers.{sound, roomTooSmall}
+use Rattle.octets.specs.declared.Put.{Put}
+use Rattle.octets.specs.declared.Put.the-variants.{Written, NotWritten}
+use Rattle.octets.specs.Text.{ascii, lf}
+use Rattle.frame.specs.declared.header.SubFrame.{SubFrame}
+use Rattle.frame.specs.Opening.{Opening, opening}
+use Rattle.record.specs.Record.{foundAt}
+use Rattle.provisioning.specs.Text.{Reading, refused, taken, reading, tableOf}
+use Rattle.payload.specs.Content.{payloadRead, numberOf}
+use Rattle.recording.specs.Line.{Held, octets, lineRead}
+use Rattle.recording.specs.Line.{refused as refusedLine}
+use Rattle.recording.specs.Pieces.{lineSize, textEnd}
+use Rattle.listing.specs.Decimal.{decimal}
+
+-- A field on its line: its name with `=`, a number, LF.
+unfoldable pub field : List ℕ → ℕ → List ℕ
+field name n = name ++ (decimal n ++ lf ∷ [])
+
+-- "then CID, type, payload octets and refusal (0 none) of each"
+unfoldable pub fourFields : ℕ → ℕ → ℕ → ℕ → List ℕ
+fourFields cid ptype len number =
+    field (ascii "cid=") cid ++ field (ascii "type=") ptype ++ field (ascii "len=") len ++ field (ascii "answer=") number
+
+-- the refusal number of a sub-frame of the frame s
+abbrev pub numberFor : List ℕ → List ℕ → SubFrame → ℕ
+numberFor table s sub =
+    numberOf (payloadRead (foundAt table (sub .cid)) (sub .ptype) (take (sub .len) (drop (sub .start) s)))
+
+unfoldable pub subListing : List ℕ → List ℕ → SubFrame → List ℕ
+subListing table s sub = fourFields (sub .cid) (sub .ptype) (sub .len) (numberFor table s sub)
+
+unfoldable pub subsListing : List ℕ → List ℕ → List SubFrame → List ℕ
+subsListing table s [] = []
+subsListing table s (sub ∷ subs) = subListing table s sub ++ subsListing table s subs
+
+-- "A refused frame prints `frame=`, `refused=`, `at=`"
+unfoldable pub refusedListing : ℕ → ℕ → ℕ → List ℕ
+refusedListing n number at = field (ascii "frame=") n ++ field (ascii "refused=") number ++ field (ascii "at=") at
+
+unfoldable pub openedListing : ℕ → List ℕ → List ℕ → Opening → List ℕ
+openedListing n table s o =
+    cond (eqb (o .number) sound)
+    (field (ascii "frame=") n ++ field (ascii "subs=") (length (o .subs)) ++ subsListing table s (o .subs))
+    (refusedListing n (o .number) (o .at))
+
+-- the frame s, which has the number n
+abbrev pub frameListing : ℕ → List ℕ → List ℕ → List ℕ
+frameListing n table s = openedListing n table s (opening s)
+
+abbrev pub readListing : ℕ → List ℕ → Held → List ℕ
+readListing n table (octets s) = frameListing n table s
+readListing n table (refusedLine number) = refusedListing n number 0
+
+-- A line that has the number n.
+unfoldable pub lineListing : ℕ → List ℕ → List ℕ → List ℕ
+lineListing n table line = readListing n table (lineRead line)
+
+-- "refused text prints `text=`, `line=` and stops"
+unfoldable pub textListing : ℕ → ℕ → List ℕ
+textListing number line = field (ascii "text=") number ++ field (ascii "line=") line
+
+-- The lines of s from number n on. Each has an octet, so that `room`, not below the octets, is enough.
+unfoldable pub linesListing : ℕ → ℕ → List ℕ → List ℕ → List ℕ
+linesListing zero n table s = []
+linesListing (suc room) n table [] = []
+linesListing (suc room) n table (x ∷ xs) =
+    let size = lineSize (x ∷ xs) in
+    lineListing n table (take size (x ∷ xs)) ++ linesListing room (n + 1) table (drop size (x ∷ xs))
+
+abbrev pub afterText : Reading → List ℕ → List ℕ
+afterText (refused number line) rest = textListing number line
+afterText (taken es) rest = linesListing (length rest) 0 (tableOf es) rest
+
+-- What is printed for a whole input. The code prints it piece by piece (Stream.antt); that the pieces join to this is compared, not
+-- proved.
+unfoldable pub listing : List ℕ → List ℕ
+listing input = afterText (reading (take (textEnd input) input)) (drop (textEnd input) input)
+
+-- The room that is asked for a line's listing: 20 digits for every number, 64 sub-frames.
+abbrev pub mostListed : ℕ
+mostListed = 6709
+
+-- What putting a listing into lent room from a place on answers: 21 where that room is not there, whatever the line.
+unfoldable pub listed : List ℕ → ℕ → List ℕ → Put
+listed room at text =
+    cond (ltb (length room) (at + mostListed)) (NotWritten roomTooSmall) (Written (at + length text))

@@ -1,0 +1,9 @@
+pub mod Characters
+pub mod Decoding
+pub mod Blocks
+pub mod Ends
+pub mod Keeping
+pub mod LineCases
+pub mod Taking
+pub mod LineStart
+pub mod TextStart

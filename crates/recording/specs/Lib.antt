@@ -1,0 +1,5 @@
+pub mod Hex
+pub mod Pieces
+pub mod Line
+pub mod Stream
+pub mod Claims
