@@ -7,24 +7,24 @@ use native.Mathlib.Omega.{arith}
 use borrow.Author.Tests.{le-ltb}
 use lib.ListN.{length}
 use Rattle.refusal.specs.Numbers.{roomTooSmall}
-use Rattle.octets.specs.Made.{Made, made, unmade, fitOf}
+use Rattle.octets.specs.Made.{Made, made, fitOf}
 use Rattle.record.specs.declared.syntax.Record.{Record}
 use Rattle.record.specs.declared.table.Found.{Found}
 use Rattle.record.specs.declared.table.Found.the-variants.{Provisioned, Unprovisioned}
 use Rattle.frame.specs.Opening.{mostOctets, mostSubFrames}
 use Rattle.frame.specs.Joining.{headerSize, shortestHeader}
-use Rattle.payload.specs.declared.layout.TypeFor.{TypeFor}
 use Rattle.payload.specs.declared.layout.TypeFor.the-variants.{Typed, NoType}
 use Rattle.payload.specs.Layout.{typeFor}
-use Rattle.payload.specs.Content.{Content, kindOf, madeOn, madeAs, payloadMade}
+use Rattle.payload.specs.Content.{Content, kindOf, payloadMade}
 use Rattle.writer.specs.declared.place.Writer.{Writer}
 use Rattle.writer.specs.declared.place.Channel.{Channel}
-use Rattle.writer.specs.declared.place.Channel.the-variants.{Takes, TakesNot}
+use Rattle.writer.specs.declared.place.Channel.the-variants.{Takes}
 use Rattle.writer.specs.declared.place.Entered.{Entered}
 use Rattle.writer.specs.declared.place.Entered.the-variants.{Place, NoPlace}
-use Rattle.writer.specs.Writer.{channelFor, typedOn, onChannel, tooLong, full, placed, entered, writes, refuses, subFrame, taken, onto, writing}
-use Rattle.writer.proofs.PlaceCases.{by-record, has-place, small, Placed, placed-back}
-use Rattle.writer.proofs.WriteCases.{Taking, taking}
+use Rattle.writer.specs.Writer.{channelFor, typedOn, onChannel, tooLong, full, placed, entered, writes, refuses, subFrame, taken, writing}
+use Rattle.writer.proofs.ChannelCases.{by-record, taking}
+use Rattle.writer.proofs.PlaceCases.{has-place, small}
+use Rattle.writer.proofs.EnterCases.{entered-back}
 
 -- a sub-frame that is taken: all but the room
 pub record Took (w : Writer) (last : Bool) (found : Found) (cid : ℕ) (content : Content) (octets : List ℕ) (next : Writer) : Type 0 where
@@ -50,101 +50,90 @@ same-writes a b v w e = (cc, cc)
 untyped : {A : Type 0} (n ptype : ℕ) → NoType n ≡ Typed ptype → A
 untyped n ptype e = let z : _≡_ {A = ℕ} 0 1 = cc in absurd (omega arith)
 
-made-on : (found : Found) (content : Content) (r : Record) (ptype : ℕ)
-    → found ≡ Provisioned r
-    → typeFor found (kindOf content) ≡ Typed ptype
-    → payloadMade found content ≡ madeOn r content
-made-on found content r ptype is typed =
-    ap (λ (t : TypeFor). madeAs t found content) typed ∙ ap (λ (f : Found). madeAs (Typed ptype) f content) is
-
 module _ (w : Writer) (last : Bool) (found : Found) (cid : ℕ) (content : Content) (octets : List ℕ) (next : Writer) where
-  module _ (room : ℕ) where
-    abbrev Known : Type 0
-    Known = Took w last found cid content octets next × (next .at ≤ room)
+  abbrev channel : Channel
+  channel = channelFor w found cid (kindOf content)
 
-    module _ (r : Record) (ptype : ℕ) (known : Taking w found cid (kindOf content) r ptype) where
-      placed-at : (payload : List ℕ) → madeOn r content ≡ made payload → (e : Entered)
-          → placed room w last cid ptype (length payload) ≡ e
-          → taken e (shortestHeader cid ptype last (length payload) ++ payload) ≡ writes octets next
-          → Known
-      placed-at payload makes (NoPlace n) there is = refused-not n octets next is
-      placed-at payload makes (Place start to) there is =
+  abbrev m : Made
+  m = payloadMade found content
+
+  pub took-back : (room : ℕ)
+      → writing room w last found cid content ≡ writes octets next
+      → Took w last found cid content octets next × (next .at ≤ room)
+  unfolding writing
+  took-back room is = go (entered room w last cid channel (fitOf m)) refl is
+    where
+      go : (e : Entered) → entered room w last cid channel (fitOf m) ≡ e
+          → taken e (subFrame cid last channel m) ≡ writes octets next
+          → Took w last found cid content octets next × (next .at ≤ room)
+      go (NoPlace n) there is = refused-not n octets next is
+      go (Place r start to) there is =
           let same = same-writes _ _ _ _ is in
-          let place = placed-back room w last cid ptype (length payload) start next (there ∙ ap (Place start) (same .1)) in
-          let ends : next .at ≡ start + length payload = ap (λ (v : Writer). v .at) (place .goes-on) in (
+          let entry = entered-back room w last cid channel m r start next (there ∙ ap (Place r start) (same .1)) in
+          let known = taking w found cid (kindOf content) r (entry .ptype) (entry .takes) in
+          let ends : next .at ≡ start + length (entry .payload) = ap (λ (v : Writer). v .at) (entry .place .goes-on) in (
             record {
-              ptype = ptype;
-              payload = payload;
+              ptype = entry .ptype;
+              payload = entry .payload;
               going = known .going;
               free = known .free;
               typed = known .typed;
               few-types = known .small;
-              makes = made-on found content r ptype (known .provisioned) (known .typed) ∙ makes;
-              are = sym (same .0);
-              goes-on = place .goes-on ∙ ap (λ (s : ℕ). record { at = s + length payload; count = w .count + 1; done = last }) (place .starts);
-              short = place .short;
-              few = place .few;
-              within = rw ends (place .within);
+              makes = entry .makes;
+              are =
+                  sym (same .0)
+                  ∙ ap (λ (c : Channel). subFrame cid last c m) (entry .takes)
+                  ∙ ap (subFrame cid last (Takes r (entry .ptype))) (entry .makes);
+              goes-on =
+                  entry .place .goes-on
+                  ∙ ap (λ (n : ℕ). record { at = n + length (entry .payload); count = w .count + 1; done = last }) (entry .place .starts);
+              short = entry .place .short;
+              few = entry .place .few;
+              within = rw ends (entry .place .within);
             },
-            rw ends (place .inside),
+            rw ends (entry .place .inside),
           )
-
-      made-at : (m : Made) → madeOn r content ≡ m
-          → taken (entered room w last cid ptype (fitOf m)) (subFrame cid ptype last m) ≡ writes octets next
-          → Known
-      made-at (made payload) makes is = placed-at payload makes (placed room w last cid ptype (length payload)) refl is
-      made-at (unmade n) makes is = refused-not n octets next is
-
-    pub took-back : writing room w last found cid content ≡ writes octets next → Known
-    unfolding writing
-    took-back is = go (channelFor w found cid (kindOf content)) refl is
-      where
-        go : (c : Channel) → channelFor w found cid (kindOf content) ≡ c → onto c room w last cid content ≡ writes octets next → Known
-        go (Takes r ptype) c is = made-at r ptype (taking w found cid (kindOf content) r ptype c) (madeOn r content) refl is
-        go (TakesNot n) c is = refused-not n octets next is
 
   -- the place of its payload decides
   module _ (took : Took w last found cid content octets next) (room : ℕ) where
-    abbrev whole : List ℕ
-    whole = shortestHeader cid (took .ptype) last (length (took .payload)) ++ took .payload
+    abbrev size : ℕ
+    size = headerSize cid (took .ptype) last
 
-    abbrev place : Entered
-    place = placed room w last cid (took .ptype) (length (took .payload))
+    abbrev len : ℕ
+    len = length (took .payload)
 
-    decides : writing room w last found cid content ≡ taken place whole
-    unfolding writing
-    decides = go found refl
-      where
-        go : (f : Found) → found ≡ f → onto (channelFor w found cid (kindOf content)) room w last cid content ≡ taken place whole
-        go (Provisioned r) is =
-            let typed = sym (ap (λ (f : Found). typeFor f (kindOf content)) is) ∙ took .typed in
-            let channel : channelFor w found cid (kindOf content) ≡ Takes r (took .ptype) =
-            sym (by-record w found cid (kindOf content) (took .going) (took .free))
-            ∙ ap (λ (f : Found). onChannel f (kindOf content)) is
-            ∙ ap (typedOn r) typed
-            in
-            ap (λ (c : Channel). onto c room w last cid content) channel
-            ∙ ap (λ (m : Made). taken (entered room w last cid (took .ptype) (fitOf m)) (subFrame cid (took .ptype) last m))
-            (sym (made-on found content r (took .ptype) is (took .typed)) ∙ took .makes)
-        go Unprovisioned is = untyped _ _ (sym (ap (λ (f : Found). typeFor f (kindOf content)) is) ∙ took .typed)
-
-    ends : next .at ≡ w .at + headerSize cid (took .ptype) last + length (took .payload)
+    ends : next .at ≡ w .at + size + len
     ends = ap (λ (v : Writer). v .at) (took .goes-on)
 
-    not-full : full w (w .at + headerSize cid (took .ptype) last + length (took .payload)) ≡ false
+    not-full : full w (w .at + size + len) ≡ false
     not-full =
-        simp (
-          le-ltb mostSubFrames (w .count + 1) (took .few),
-          le-ltb mostOctets (w .at + headerSize cid (took .ptype) last + length (took .payload)) (rw ends at (took .within)),
-        )
+        simp (le-ltb mostSubFrames (w .count + 1) (took .few), le-ltb mostOctets (w .at + size + len) (rw ends at (took .within)))
+
+    provisioned : (r : Record) × (found ≡ Provisioned r)
+    provisioned = go found refl
+      where
+        go : (f : Found) → found ≡ f → (r : Record) × (found ≡ Provisioned r)
+        go (Provisioned r) is = (r, is)
+        go Unprovisioned is = untyped _ _ (sym (ap (λ (f : Found). typeFor f (kindOf content)) is) ∙ took .typed)
+
+    decides : (e : Entered) → e ≡ placed room w last cid (provisioned .0) (took .ptype) len → writing room w last found cid content ≡ taken e octets
+    unfolding writing
+    decides e placing =
+        let r = provisioned .0 in
+        let is = provisioned .1 in
+        let takes : channel ≡ Takes r (took .ptype) =
+        sym (by-record w found cid (kindOf content) (took .going) (took .free))
+        ∙ ap (λ (f : Found). onChannel f (kindOf content)) is
+        ∙ ap (typedOn r) (sym (ap (λ (f : Found). typeFor f (kindOf content)) is) ∙ took .typed)
+        in
+        ap (λ (c : Channel). taken (entered room w last cid c (fitOf m)) (subFrame cid last c m)) takes
+        ∙ ap (λ (x : Made). taken (entered room w last cid (Takes r (took .ptype)) (fitOf x)) (subFrame cid last (Takes r (took .ptype)) x)) (took .makes)
+        ∙ ap₂ taken (sym placing) (sym (took .are))
 
     pub too-small : room < next .at → writing room w last found cid content ≡ refuses roomTooSmall
-    too-small h =
-        decides ∙ ap (λ (e : Entered). taken e whole)
-        (sym (small room w last cid (took .ptype) (length (took .payload)) (took .short) refl not-full (rw ends at h)))
+    too-small h = decides _ (small room w last cid _ (took .ptype) len (took .short) refl not-full (rw ends at h))
 
     pub large-enough : next .at ≤ room → writing room w last found cid content ≡ writes octets next
     large-enough h =
-        decides ∙ ap (λ (e : Entered). taken e whole)
-        (sym (has-place room w last cid (took .ptype) (length (took .payload)) (took .short) refl not-full (rw ends at h)))
-        ∙ ap₂ writes (sym (took .are)) (sym (took .goes-on))
+        decides _ (has-place room w last cid _ (took .ptype) len (took .short) refl not-full (rw ends at h))
+        ∙ ap (writes octets) (sym (took .goes-on))

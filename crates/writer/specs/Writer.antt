@@ -2,7 +2,7 @@
 -- 4, 11 to 16, 22, 23, 21; 21 exactly when header and payload exceed the room left."
 use Prim.Native.Nat.{ℕ, _+_}
 use mathlib.Core.List.{List, [], _∷_, _++_}
-use mathlib.Core.Bool.{Bool, true, false, cond}
+use mathlib.Core.Bool.{Bool, false, cond}
 use lib.Dec.{ltb}
 use lib.ListN.{length}
 use Rattle.refusal.specs.Numbers.{cidReserved, notProvisioned, roomTooSmall, tooLongNotLast, frameFull, alreadyLast}
@@ -20,7 +20,7 @@ use Rattle.payload.specs.declared.layout.Kind.{Kind}
 use Rattle.payload.specs.declared.layout.TypeFor.{TypeFor}
 use Rattle.payload.specs.declared.layout.TypeFor.the-variants.{Typed, NoType}
 use Rattle.payload.specs.Layout.{typeFor}
-use Rattle.payload.specs.Content.{Content, kindOf, madeOn}
+use Rattle.payload.specs.Content.{Content, kindOf, payloadMade}
 use Rattle.writer.specs.declared.place.Writer.{Writer}
 use Rattle.writer.specs.declared.place.Channel.{Channel}
 use Rattle.writer.specs.declared.place.Channel.the-variants.{Takes, TakesNot}
@@ -61,8 +61,8 @@ abbrev pub full : Writer → ℕ → Bool
 full w end = ltb mostSubFrames (w .count + 1) or ltb mostOctets end
 
 -- 22, 23, 21, for a payload of len octets: where it begins, behind its header, and the writer after it
-unfoldable pub placed : ℕ → Writer → Bool → ℕ → ℕ → ℕ → Entered
-placed room w last cid ptype len =
+unfoldable pub placed : ℕ → Writer → Bool → ℕ → Record → ℕ → ℕ → Entered
+placed room w last cid r ptype len =
     let start = w .at + headerSize cid ptype last in
     let end = start + len in
     inOrder
@@ -71,35 +71,35 @@ placed room w last cid ptype len =
     ∷ ltb room end gives roomTooSmall
     ∷ [])
     NoPlace
-    (Place start (record { at = end; count = w .count + 1; done = last }))
+    (Place r start (record { at = end; count = w .count + 1; done = last }))
 
--- 13 to 16, by the payload's layout, then those
-abbrev pub entered : ℕ → Writer → Bool → ℕ → ℕ → Fit → Entered
-entered room w last cid ptype (Octets len) = placed room w last cid ptype len
-entered room w last cid ptype (Unfit number) = NoPlace number
+-- The order: by the sub-channel; 13 to 16 by the payload's layout; by the place.
+abbrev pub entered : ℕ → Writer → Bool → ℕ → Channel → Fit → Entered
+entered room w last cid (TakesNot number) fit = NoPlace number
+entered room w last cid (Takes r ptype) (Unfit number) = NoPlace number
+entered room w last cid (Takes r ptype) (Octets len) = placed room w last cid r ptype len
 
 -- What the writer does with a sub-frame: it takes it, as these octets, and goes on; or it refuses it.
 pub data Writing : Type 0 where
   writes : List ℕ → Writer → Writing
   refuses : ℕ → Writing
 
--- a sub-frame's octets: the header, and the payload that is made
-abbrev pub subFrame : ℕ → ℕ → Bool → Made → List ℕ
-subFrame cid ptype last (made payload) = shortestHeader cid ptype last (length payload) ++ payload
-subFrame cid ptype last (unmade number) = []
+-- A sub-frame's octets: the header, and the payload that is made.
+abbrev pub subFrame : ℕ → Bool → Channel → Made → List ℕ
+subFrame cid last (Takes r ptype) (made payload) = shortestHeader cid ptype last (length payload) ++ payload
+subFrame cid last (Takes r ptype) (unmade number) = []
+subFrame cid last (TakesNot number) m = []
 
 abbrev pub taken : Entered → List ℕ → Writing
-taken (Place start next) octets = writes octets next
+taken (Place r start next) octets = writes octets next
 taken (NoPlace number) octets = refuses number
-
-abbrev pub onto : Channel → ℕ → Writer → Bool → ℕ → Content → Writing
-onto (Takes r ptype) room w last cid content =
-    taken (entered room w last cid ptype (fitOf (madeOn r content))) (subFrame cid ptype last (madeOn r content))
-onto (TakesNot number) room w last cid content = refuses number
 
 -- A content for a sub-channel of this CID, with what is provisioned there, in a lent frame of `room` octets.
 unfoldable pub writing : ℕ → Writer → Bool → Found → ℕ → Content → Writing
-writing room w last found cid content = onto (channelFor w found cid (kindOf content)) room w last cid content
+writing room w last found cid content =
+    let channel = channelFor w found cid (kindOf content) in
+    let m = payloadMade found content in
+    taken (entered room w last cid channel (fitOf m)) (subFrame cid last channel m)
 
 -- The lent frame then: "all lent memory and state stand as at entry" where it is refused.
 abbrev pub leftWriting : Writing → List ℕ → ℕ → List ℕ

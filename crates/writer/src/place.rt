@@ -6,13 +6,14 @@ use payload::layout::TypeFor;
 use record::syntax::Record;
 use record::table::Found;
 ghost use mathlib.Core.Path.{_≡_};
-ghost use Prim.Native.Nat.{ℕ, _+_, _-_, _≤_};
+ghost use Prim.Native.Nat.{ℕ, _+_, _-_};
 ghost use lib.ListN.{length};
 ghost use Rattle.octets.specs.Room.{written};
 ghost use Rattle.record.specs.Record.{foundAt};
 ghost use Rattle.frame.specs.Joining.{shortestHeader};
+ghost use Rattle.writer.specs.declared.place.Channel.the-variants.{Takes};
 ghost use Rattle.writer.specs.declared.place.Entered.the-variants.{Place, NoPlace};
-ghost use Rattle.writer.specs.Writer.{freshWriter, channelFor, tooLong, full, entered};
+ghost use Rattle.writer.specs.Writer.{freshWriter, channelFor, tooLong, full, placed, entered};
 
 // The largest payload that is not last, by its length octet.
 const MOST_NOT_LAST: usize = 255;
@@ -26,7 +27,7 @@ pub struct Writer {
 }
 
 // What a sub-channel takes a content as.
-pub(crate) enum Channel {
+enum Channel {
     // Its record, and the content's payload type there.
     Takes { rec: Record, ptype: u8 },
     // The refusal number: 24, 4, 11 or 12.
@@ -35,9 +36,13 @@ pub(crate) enum Channel {
 
 // Whether a sub-frame has its place.
 pub(crate) enum Entered {
-    // Where the payload begins, and the writer after it.
-    Place { start: usize, next: Writer },
-    // The refusal number: the payload's own, 22, 23 or 21.
+    // The sub-channel's record, where the payload begins, and the writer after it.
+    Place {
+        rec: Record,
+        start: usize,
+        next: Writer,
+    },
+    // The refusal number.
     NoPlace(u8),
 }
 
@@ -53,7 +58,7 @@ pub fn fresh() -> Writer
 }
 
 // 24, 4, 11, 12: what the sub-channel takes a content of this kind as.
-pub(crate) fn channel_for(writer: Writer, table: &[u16; 256], cid: u8, kind: Kind) -> Channel
+fn channel_for(writer: Writer, table: &[u16; 256], cid: u8, kind: Kind) -> Channel
     ensures { λ r. ⌜ r ≡ channelFor writer (foundAt (now (table .entry)) cid) cid kind ⌝ }
 {
     if writer.done {
@@ -95,43 +100,71 @@ fn full(writer: Writer, header: usize, len: usize) -> bool
     octets::exceeds(frame::opening::MOST_OCTETS, writer.at + header, len)
 }
 
-// Enters a sub-frame whose payload fits so: 13 to 16, 22, 23, 21; where it has its place, the header is written before it.
+// 22, 23, 21: where a payload of so many octets begins, behind its header, and the writer after it.
+fn place(
+    room: usize,
+    writer: Writer,
+    last: bool,
+    cid: u8,
+    rec: Record,
+    ptype: u8,
+    len: usize,
+) -> Entered
+    ensures { λ r. ⌜ r ≡ placed room writer last cid rec ptype len ⌝ }
+{
+    if too_long(last, len) {
+        return Entered::NoPlace(refusal::TOO_LONG_NOT_LAST);
+    }
+    let header = frame::joining::header_size(cid, ptype, last);
+    if full(writer, header, len) {
+        return Entered::NoPlace(refusal::FRAME_FULL);
+    }
+    let start = writer.at + header;
+    let end = start + len;
+    if room < end {
+        return Entered::NoPlace(refusal::ROOM_TOO_SMALL);
+    }
+    let next = Writer {
+        at: end,
+        count: writer.count + 1,
+        done: last,
+    };
+    Entered::Place { rec, start, next }
+}
+
+// Enters a sub-frame: 24, 4, 11 to 16, 22, 23, 21 for a content of this kind that fits so. Where it has its place, its header is
+// written, and the payload is to follow.
 pub(crate) fn enter(
     frame: &mut [u8],
     writer: Writer,
     last: bool,
+    table: &[u16; 256],
     cid: u8,
-    ptype: u8,
+    kind: Kind,
     fit: Fit,
 ) -> Entered
-    requires free { ⌜ 4 ≤ cid ⌝ }
-    requires bits { ⌜ ptype ≤ 15 ⌝ }
-    ensures answer { λ r. ⌜ r ≡ entered (length (now (frame .entry))) writer last cid ptype fit ⌝ }
-    ensures headed { λ r. ⌜ ((start : ℕ) (next : Writer) → r ≡ Place start next → now (frame .exit) ≡ written (now (frame .entry)) (writer .at) (shortestHeader cid ptype last (next .at - start))) ⌝ }
+    ensures answer { λ r. ⌜ r ≡ entered (length (now (frame .entry))) writer last cid (channelFor writer (foundAt (now (table .entry)) cid) cid kind) fit ⌝ }
+    ensures headed { λ r. ⌜ ((rec : Record) (ptype start : ℕ) (next : Writer) → channelFor writer (foundAt (now (table .entry)) cid) cid kind ≡ Takes rec ptype → r ≡ Place rec start next → now (frame .exit) ≡ written (now (frame .entry)) (writer .at) (shortestHeader cid ptype last (next .at - start))) ⌝ }
     ensures kept { λ r. ⌜ ((number : ℕ) → r ≡ NoPlace number → now (frame .exit) ≡ now (frame .entry)) ⌝ }
 {
-    match fit {
-        Fit::Unfit(number) => Entered::NoPlace(number),
-        Fit::Octets(len) => {
-            if too_long(last, len) {
-                return Entered::NoPlace(refusal::TOO_LONG_NOT_LAST);
-            }
-            let header = frame::joining::header_size(cid, ptype, last);
-            if full(writer, header, len) {
-                return Entered::NoPlace(refusal::FRAME_FULL);
-            }
-            let start = writer.at + header;
-            let end = start + len;
-            if frame.len() < end {
-                return Entered::NoPlace(refusal::ROOM_TOO_SMALL);
-            }
-            frame::joining::put_header(frame, writer.at, cid, ptype, last, (len % 256) as u8);
-            let next = Writer {
-                at: end,
-                count: writer.count + 1,
-                done: last,
-            };
-            Entered::Place { start, next }
-        }
+    match channel_for(writer, table, cid, kind) {
+        Channel::TakesNot(number) => Entered::NoPlace(number),
+        Channel::Takes { rec, ptype } => match fit {
+            Fit::Unfit(number) => Entered::NoPlace(number),
+            Fit::Octets(len) => match place(frame.len(), writer, last, cid, rec, ptype, len) {
+                Entered::NoPlace(number) => Entered::NoPlace(number),
+                Entered::Place { rec, start, next } => {
+                    frame::joining::put_header(
+                        frame,
+                        writer.at,
+                        cid,
+                        ptype,
+                        last,
+                        (len % 256) as u8,
+                    );
+                    Entered::Place { rec, start, next }
+                }
+            },
+        },
     }
 }

@@ -1,6 +1,6 @@
 -- `writer::place::channel_for` meets its contract: 24, 4, then what the record says.
 use borrow.Author.Needs.{needs}
-use Rattle.writer.proofs.PlaceCases as cases
+use Rattle.writer.proofs.ChannelCases as cases
 use Rattle.writer.proofs.place.channel_for.Statement.{statement}
 use Rattle.writer.proofs.place.channel_for.Tie as tie
 
