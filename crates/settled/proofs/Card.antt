@@ -1,7 +1,5 @@
 -- One answer only: the public functions of `card`.
-use mathlib.Core.Path.{_≡_, refl, sym, ap, ap₂, _∙_}
-use Prim.Native.Nat.{ℕ}
-use mathlib.Core.List.{List}
+use mathlib.Core.Path.{refl, sym, _∙_}
 use denote.Ref.{now}
 use Rattle.settled.specs.Settled.{OneAnswer, nothing, OnePart}
 use Rattle.card.proofs.handing.find.Kinds as handing-find-kinds
@@ -14,4 +12,3 @@ handing-find κs a x y s t p q = (p ∙ sym q, refl)
 
 pub handing-hand : OnePart 3 handing-hand-kinds.ps handing-hand-kinds.r (λ κs x. x) (λ κs s. now (s .1 .1 .1 .1 .0)) handing-hand-reads.Post
 handing-hand κs a x y s t p q = (p .0 ∙ sym (q .0), p .1 .0 ∙ sym (q .1 .0), p .1 .1 ∙ sym (q .1 .1))
-

@@ -1,9 +1,7 @@
 -- One answer only: the public functions of `counts`.
-use mathlib.Core.Path.{_≡_, refl, sym, ap, ap₂, _∙_}
+use mathlib.Core.Path.{refl, sym, ap, _∙_}
 use Prim.Native.Nat.{ℕ}
-use mathlib.Core.List.{List}
-use denote.Ref.{now}
-use Rattle.settled.specs.Settled.{OneAnswer, nothing, OnePart}
+use Rattle.settled.specs.Settled.{OneAnswer, nothing}
 use Rattle.counts.specs.declared.DigitCount.{DigitCount}
 use Rattle.counts.specs.declared.SignallingCount.{SignallingCount}
 use Rattle.counts.specs.declared.VoiceCount.{VoiceCount}
@@ -48,4 +46,3 @@ datacount-next κs a x y s t p q = (let of : ℕ → DataCount = λ n. record { 
 
 pub datacount-step-to : OneAnswer 0 datacount-step-to-kinds.ps datacount-step-to-kinds.r nothing datacount-step-to-reads.Post
 datacount-step-to κs a x y s t p q = (p ∙ sym q, refl)
-

@@ -1,9 +1,7 @@
 -- One answer only: the public functions of `data`.
-use mathlib.Core.Path.{_≡_, refl, sym, ap, ap₂, _∙_}
-use Prim.Native.Nat.{ℕ}
-use mathlib.Core.List.{List}
+use mathlib.Core.Path.{refl, sym, _∙_}
 use denote.Ref.{now}
-use Rattle.settled.specs.Settled.{OneAnswer, nothing, OnePart}
+use Rattle.settled.specs.Settled.{OneAnswer, nothing}
 use Rattle.data.proofs.read_data.Kinds as read-data-kinds
 use Rattle.data.proofs.read_data.Reads as read-data-reads
 use Rattle.data.proofs.fit_data.Kinds as fit-data-kinds
@@ -19,4 +17,3 @@ fit-data κs a x y s t p q = (p true true ∙ sym (q true true), refl)
 
 pub put-data : OneAnswer 2 put-data-kinds.ps put-data-kinds.r (λ κs s. now (s .0)) put-data-reads.Post
 put-data κs a x y s t p q = (p .0 ∙ sym (q .0), cc)
-

@@ -1,9 +1,6 @@
 -- One answer only: the public functions of `dialling`.
-use mathlib.Core.Path.{_≡_, refl, sym, ap, ap₂, _∙_}
-use Prim.Native.Nat.{ℕ}
-use mathlib.Core.List.{List}
-use denote.Ref.{now}
-use Rattle.settled.specs.Settled.{OneAnswer, nothing, OnePart}
+use mathlib.Core.Path.{refl, sym, _∙_}
+use Rattle.settled.specs.Settled.{OneAnswer, nothing}
 use Rattle.dialling.proofs.receiver.fresh.Kinds as receiver-fresh-kinds
 use Rattle.dialling.proofs.receiver.fresh.Reads as receiver-fresh-reads
 use Rattle.dialling.proofs.receiver.receive.Kinds as receiver-receive-kinds
@@ -29,4 +26,3 @@ sender-fresh κs a x y s t p q = (p ∙ sym q, refl)
 
 pub sender-send : OneAnswer 0 sender-send-kinds.ps sender-send-kinds.r nothing sender-send-reads.Post
 sender-send κs a x y s t p q = (p ∙ sym q, refl)
-

@@ -1,9 +1,7 @@
 -- One answer only: the public functions of `digits`.
-use mathlib.Core.Path.{_≡_, refl, sym, ap, ap₂, _∙_}
-use Prim.Native.Nat.{ℕ}
-use mathlib.Core.List.{List}
+use mathlib.Core.Path.{refl, sym, _∙_}
 use denote.Ref.{now}
-use Rattle.settled.specs.Settled.{OneAnswer, nothing, OnePart}
+use Rattle.settled.specs.Settled.{OneAnswer, nothing}
 use Rattle.digits.proofs.layout.off_window.Kinds as layout-off-window-kinds
 use Rattle.digits.proofs.layout.off_window.Reads as layout-off-window-reads
 use Rattle.digits.proofs.layout.window_wrong.Kinds as layout-window-wrong-kinds
@@ -28,7 +26,6 @@ layout-read-digits κs a x y s t p q = (p ∙ sym q, refl)
 
 pub layout-level-low : OneAnswer 0 layout-level-low-kinds.ps layout-level-low-kinds.r nothing layout-level-low-reads.Post
 layout-level-low κs a x y s t p q = (p ∙ sym q, refl)
-
 
 pub layout-fit-digits : OneAnswer 0 layout-fit-digits-kinds.ps layout-fit-digits-kinds.r nothing layout-fit-digits-reads.Post
 layout-fit-digits κs a x y s t p q = (p ∙ sym q, refl)

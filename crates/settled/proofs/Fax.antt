@@ -1,9 +1,7 @@
 -- One answer only: the public functions of `fax`.
-use mathlib.Core.Path.{_≡_, refl, sym, ap, ap₂, _∙_}
-use Prim.Native.Nat.{ℕ}
-use mathlib.Core.List.{List}
+use mathlib.Core.Path.{refl, sym, _∙_}
 use denote.Ref.{now}
-use Rattle.settled.specs.Settled.{OneAnswer, nothing, OnePart}
+use Rattle.settled.specs.Settled.{OneAnswer, nothing}
 use Rattle.fax.proofs.read_fax.Kinds as read-fax-kinds
 use Rattle.fax.proofs.read_fax.Reads as read-fax-reads
 use Rattle.fax.proofs.fit_fax.Kinds as fit-fax-kinds
@@ -19,4 +17,3 @@ fit-fax κs a x y s t p q = (p ∙ sym q, refl)
 
 pub put-fax : OneAnswer 2 put-fax-kinds.ps put-fax-kinds.r (λ κs s. now (s .0)) put-fax-reads.Post
 put-fax κs a x y s t p q = (p .0 ∙ sym (q .0), cc)
-

@@ -1,9 +1,7 @@
 -- One answer only: the public functions of `frame`.
-use mathlib.Core.Path.{_≡_, refl, sym, ap, ap₂, _∙_}
-use Prim.Native.Nat.{ℕ}
-use mathlib.Core.List.{List}
+use mathlib.Core.Path.{_≡_, refl, sym, _∙_}
 use denote.Ref.{now}
-use Rattle.settled.specs.Settled.{OneAnswer, nothing, OnePart}
+use Rattle.settled.specs.Settled.{OneAnswer, nothing}
 use Rattle.frame.specs.declared.opening.Checked.{Checked}
 use Rattle.frame.proofs.header.header_at.Kinds as header-header-at-kinds
 use Rattle.frame.proofs.header.header_at.Reads as header-header-at-reads
@@ -46,4 +44,3 @@ opening-check κs a x y s t p q = (same x y (p .0 ∙ sym (q .0)) (p .1 .0 ∙ s
 
 pub opening-open : OneAnswer 1 opening-open-kinds.ps opening-open-kinds.r nothing opening-open-reads.Post
 opening-open κs a x y s t p q = (p ∙ sym q, refl)
-

@@ -1,9 +1,7 @@
 -- One answer only: the public functions of `octets`.
-use mathlib.Core.Path.{_≡_, refl, sym, ap, ap₂, _∙_}
-use Prim.Native.Nat.{ℕ}
-use mathlib.Core.List.{List}
+use mathlib.Core.Path.{refl, sym, _∙_}
 use denote.Ref.{now}
-use Rattle.settled.specs.Settled.{OneAnswer, nothing, OnePart}
+use Rattle.settled.specs.Settled.{OneAnswer, nothing}
 use Rattle.octets.proofs.wide.Kinds as wide-kinds
 use Rattle.octets.proofs.wide.Reads as wide-reads
 use Rattle.octets.proofs.double.Kinds as double-kinds
@@ -54,4 +52,3 @@ text-starts κs a x y s t p q = (p ∙ sym q, refl)
 
 pub text-has-lf : OneAnswer 1 text-has-lf-kinds.ps text-has-lf-kinds.r nothing text-has-lf-reads.Post
 text-has-lf κs a x y s t p q = (p ∙ sym q, refl)
-

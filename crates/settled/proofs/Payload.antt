@@ -1,9 +1,6 @@
 -- One answer only: the public functions of `payload`.
-use mathlib.Core.Path.{_≡_, refl, sym, ap, ap₂, _∙_}
-use Prim.Native.Nat.{ℕ}
-use mathlib.Core.List.{List}
-use denote.Ref.{now}
-use Rattle.settled.specs.Settled.{OneAnswer, nothing, OnePart}
+use mathlib.Core.Path.{refl, sym, _∙_}
+use Rattle.settled.specs.Settled.{OneAnswer, nothing}
 use Rattle.payload.proofs.check.check_payload.Kinds as check-check-payload-kinds
 use Rattle.payload.proofs.check.check_payload.Reads as check-check-payload-reads
 use Rattle.payload.proofs.layout.family_of.Kinds as layout-family-of-kinds

@@ -1,8 +1,5 @@
 -- One answer only: the public functions of `reader`.
-use mathlib.Core.Path.{_≡_, refl, sym, ap, ap₂, _∙_}
-use Prim.Native.Nat.{ℕ}
-use mathlib.Core.List.{List}
-use denote.Ref.{now}
+use mathlib.Core.Path.{refl, sym, _∙_}
 use Rattle.settled.specs.Settled.{OneAnswer, nothing, OnePart}
 use Rattle.reader.proofs.step_from.Kinds as step-from-kinds
 use Rattle.reader.proofs.step_from.Reads as step-from-reads
@@ -19,4 +16,3 @@ part κs a x y s t p q = (p .0 ∙ sym (q .0), p .1 ∙ sym (q .1), refl)
 
 pub nth : OneAnswer 1 nth-kinds.ps nth-kinds.r nothing nth-reads.Post
 nth κs a x y s t p q = (p ∙ sym q, refl)
-

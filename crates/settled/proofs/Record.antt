@@ -1,9 +1,6 @@
 -- One answer only: the public functions of `record`.
-use mathlib.Core.Path.{_≡_, refl, sym, ap, ap₂, _∙_}
-use Prim.Native.Nat.{ℕ}
-use mathlib.Core.List.{List}
-use denote.Ref.{now}
-use Rattle.settled.specs.Settled.{OneAnswer, nothing, OnePart}
+use mathlib.Core.Path.{refl, sym, _∙_}
+use Rattle.settled.specs.Settled.{OneAnswer, nothing}
 use Rattle.record.proofs.syntax.m_listed.Kinds as syntax-m-listed-kinds
 use Rattle.record.proofs.syntax.m_listed.Reads as syntax-m-listed-reads
 use Rattle.record.proofs.syntax.seq_listed.Kinds as syntax-seq-listed-kinds

@@ -1,9 +1,6 @@
 -- One answer only: the public functions of `replay`.
-use mathlib.Core.Path.{_≡_, refl, sym, ap, ap₂, _∙_}
-use Prim.Native.Nat.{ℕ}
-use mathlib.Core.List.{List}
-use denote.Ref.{now}
-use Rattle.settled.specs.Settled.{OneAnswer, nothing, OnePart}
+use mathlib.Core.Path.{refl, sym, _∙_}
+use Rattle.settled.specs.Settled.{OneAnswer, nothing}
 use Rattle.replay.proofs.step_taken.Kinds as step-taken-kinds
 use Rattle.replay.proofs.step_taken.Reads as step-taken-reads
 use Rattle.replay.proofs.fill_count.Kinds as fill-count-kinds

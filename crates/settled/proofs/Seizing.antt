@@ -1,9 +1,6 @@
 -- One answer only: the public functions of `seizing`.
-use mathlib.Core.Path.{_≡_, refl, sym, ap, ap₂, _∙_}
-use Prim.Native.Nat.{ℕ}
-use mathlib.Core.List.{List}
-use denote.Ref.{now}
-use Rattle.settled.specs.Settled.{OneAnswer, nothing, OnePart}
+use mathlib.Core.Path.{refl, sym, _∙_}
+use Rattle.settled.specs.Settled.{OneAnswer, nothing}
 use Rattle.seizing.proofs.receiver.fresh.Kinds as receiver-fresh-kinds
 use Rattle.seizing.proofs.receiver.fresh.Reads as receiver-fresh-reads
 use Rattle.seizing.proofs.receiver.receive.Kinds as receiver-receive-kinds
@@ -24,4 +21,3 @@ sender-start κs a x y s t p q = (p ∙ sym q, refl)
 
 pub sender-send : OneAnswer 0 sender-send-kinds.ps sender-send-kinds.r nothing sender-send-reads.Post
 sender-send κs a x y s t p q = (p ∙ sym q, refl)
-

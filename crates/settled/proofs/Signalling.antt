@@ -1,9 +1,7 @@
 -- One answer only: the public functions of `signalling`.
-use mathlib.Core.Path.{_≡_, refl, sym, ap, ap₂, _∙_}
-use Prim.Native.Nat.{ℕ}
-use mathlib.Core.List.{List}
+use mathlib.Core.Path.{refl, sym, _∙_}
 use denote.Ref.{now}
-use Rattle.settled.specs.Settled.{OneAnswer, nothing, OnePart}
+use Rattle.settled.specs.Settled.{OneAnswer, nothing}
 use Rattle.signalling.proofs.layout.read_signalling.Kinds as layout-read-signalling-kinds
 use Rattle.signalling.proofs.layout.read_signalling.Reads as layout-read-signalling-reads
 use Rattle.signalling.proofs.layout.allowed.Kinds as layout-allowed-kinds
@@ -18,7 +16,6 @@ layout-read-signalling κs a x y s t p q = (p ∙ sym q, refl)
 
 pub layout-allowed : OneAnswer 0 layout-allowed-kinds.ps layout-allowed-kinds.r nothing layout-allowed-reads.Post
 layout-allowed κs a x y s t p q = (p ∙ sym q, refl)
-
 
 pub layout-fit-signalling : OneAnswer 0 layout-fit-signalling-kinds.ps layout-fit-signalling-kinds.r nothing layout-fit-signalling-reads.Post
 layout-fit-signalling κs a x y s t p q = (p ∙ sym q, refl)

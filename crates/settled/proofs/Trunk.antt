@@ -1,9 +1,6 @@
 -- One answer only: the public functions of `trunk`.
-use mathlib.Core.Path.{_≡_, refl, sym, ap, ap₂, _∙_}
-use Prim.Native.Nat.{ℕ}
-use mathlib.Core.List.{List}
-use denote.Ref.{now}
-use Rattle.settled.specs.Settled.{OneAnswer, nothing, OnePart}
+use mathlib.Core.Path.{refl, sym, _∙_}
+use Rattle.settled.specs.Settled.{OneAnswer, nothing}
 use Rattle.trunk.proofs.fresh.Kinds as fresh-kinds
 use Rattle.trunk.proofs.fresh.Reads as fresh-reads
 use Rattle.trunk.proofs.take.Kinds as take-kinds

@@ -1,9 +1,7 @@
 -- One answer only: the public functions of `voice`.
-use mathlib.Core.Path.{_≡_, refl, sym, ap, ap₂, _∙_}
-use Prim.Native.Nat.{ℕ}
-use mathlib.Core.List.{List}
+use mathlib.Core.Path.{refl, sym, _∙_}
 use denote.Ref.{now}
-use Rattle.settled.specs.Settled.{OneAnswer, nothing, OnePart}
+use Rattle.settled.specs.Settled.{OneAnswer, nothing}
 use Rattle.voice.proofs.sid.read_sid.Kinds as sid-read-sid-kinds
 use Rattle.voice.proofs.sid.read_sid.Reads as sid-read-sid-reads
 use Rattle.voice.proofs.sid.fit_sid.Kinds as sid-fit-sid-kinds
@@ -39,4 +37,3 @@ voice-fit-voice κs a x y s t p q = (p ∙ sym q, refl)
 
 pub voice-put-voice : OneAnswer 2 voice-put-voice-kinds.ps voice-put-voice-kinds.r (λ κs s. now (s .0)) voice-put-voice-reads.Post
 voice-put-voice κs a x y s t p q = (p .0 ∙ sym (q .0), cc)
-

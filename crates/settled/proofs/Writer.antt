@@ -1,9 +1,7 @@
 -- One answer only: the public functions of `writer`.
-use mathlib.Core.Path.{_≡_, refl, sym, ap, ap₂, _∙_}
-use Prim.Native.Nat.{ℕ}
-use mathlib.Core.List.{List}
+use mathlib.Core.Path.{refl, sym, _∙_}
 use denote.Ref.{now}
-use Rattle.settled.specs.Settled.{OneAnswer, nothing, OnePart}
+use Rattle.settled.specs.Settled.{OneAnswer, nothing}
 use Rattle.writer.proofs.place.fresh.Kinds as place-fresh-kinds
 use Rattle.writer.proofs.place.fresh.Reads as place-fresh-reads
 use Rattle.writer.proofs.primary.write_voice.Kinds as primary-write-voice-kinds
@@ -39,4 +37,3 @@ signalled-write-fax κs a x y s t p q = (p .0 ∙ sym (q .0), cc)
 
 pub signalled-write-sid : OneAnswer 2 signalled-write-sid-kinds.ps signalled-write-sid-kinds.r (λ κs s. now (s .0)) signalled-write-sid-reads.Post
 signalled-write-sid κs a x y s t p q = (p .0 ∙ sym (q .0), cc)
-
