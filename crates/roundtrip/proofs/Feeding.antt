@@ -10,20 +10,22 @@ use lib.ListN.{length, take, drop, length-append, take-append-drop}
 use Rattle.octets.specs.Room.{written}
 use Rattle.octets.proofs.Writes.{length-written, written-twice}
 use Rattle.record.specs.Record.{foundAt}
+use Rattle.frame.specs.Opening.{mostOctets, mostSubFrames}
 use Rattle.frame.specs.Joining.{joined, isNone, headerSize, shortestHeader}
 use Rattle.frame.specs.Joining as joining
 use Rattle.frame.proofs.HeaderWritten as header
 use Rattle.framing.specs.Claims.{Each}
-use Rattle.payload.specs.Content.{Content}
+use Rattle.payload.specs.Content.{kindOf}
 use Rattle.writer.specs.declared.place.Writer.{Writer}
-use Rattle.writer.specs.Writer.{tooLong, Writing, writes, refuses, leftWriting}
+use Rattle.writer.specs.Writer.{mostNotLast, tooLong, Writing, writes, refuses, leftWriting}
+use Rattle.writer.proofs.ChannelCases.{small-typed}
 use Rattle.writer.proofs.WriteBack.{Took, took-back}
 use Rattle.roundtrip.specs.Demand2.{Sub, AllStated, isLast, took, stopped, after, onwards, first, fed, AllMade}
 
 -- where a writer may stand
 pub record Standing (w : Writer) (frame : List ℕ) : Type 0 where
-  pub few : w .count ≤ 64
-  pub within : w .at ≤ 1600
+  pub few : w .count ≤ mostSubFrames
+  pub within : w .at ≤ mostOctets
   pub inside : w .at ≤ length frame
 
 -- a list taken whole
@@ -76,8 +78,11 @@ none-written frame at =
 -- one sub-frame, and the rest behind it
 module _ (table frame : List ℕ) (w : Writer) (s : Sub) (ss : List Sub) (octets : List ℕ) (next : Writer) (octet : s .cid ≤ 255)
     (does : first table frame w s ss ≡ writes octets next) where
-  got : Took (length frame) w (isLast ss) (foundAt table (s .cid)) (s .cid) (s .content) octets next
-  got = took-back (length frame) w (isLast ss) (foundAt table (s .cid)) (s .cid) (s .content) octets next does
+  back : Took w (isLast ss) (foundAt table (s .cid)) (s .cid) (s .content) octets next × (next .at ≤ length frame)
+  back = took-back w (isLast ss) (foundAt table (s .cid)) (s .cid) (s .content) octets next (length frame) does
+
+  pub got : Took w (isLast ss) (foundAt table (s .cid)) (s .cid) (s .content) octets next
+  got = back .0
 
   content : joining.Member
   content = record { cid = s .cid; ptype = got .ptype; payload = got .payload }
@@ -90,30 +95,25 @@ module _ (table frame : List ℕ) (w : Writer) (s : Sub) (ss : List Sub) (octets
       let long : length octets ≡ headerSize (s .cid) (got .ptype) (isLast ss) + length (got .payload) =
       ap length (got .are) ∙ length-append (shortestHeader (s .cid) (got .ptype) (isLast ss) (length (got .payload))) (got .payload) ∙ ap (λ (n : ℕ). n + length (got .payload)) head
       in
-      let begins : got .start ≡ w .at + headerSize (s .cid) (got .ptype) (isLast ss) = got .place .starts in
-      let ends : next .at ≡ got .start + length (got .payload) = ap (λ (v : Writer). v .at) (got .place .goes-on) in
+      let ends : next .at ≡ w .at + headerSize (s .cid) (got .ptype) (isLast ss) + length (got .payload) = ap (λ (v : Writer). v .at) (got .goes-on) in
       omega arith
 
   pub next-stands : (frame' : List ℕ) → length frame' ≡ length frame → Standing next frame'
   next-stands frame' same =
-      let ends : next .at ≡ got .start + length (got .payload) = ap (λ (v : Writer). v .at) (got .place .goes-on) in
-      let counts : next .count ≡ w .count + 1 = ap (λ (v : Writer). v .count) (got .place .goes-on) in
-      let few : w .count + 1 ≤ 64 = got .place .few in
-      let most : got .start + length (got .payload) ≤ 1600 = got .place .within in
-      let room : got .start + length (got .payload) ≤ length frame = got .place .inside in
-      record { few = omega arith; within = omega arith; inside = omega arith }
+      let counts : next .count ≡ w .count + 1 = ap (λ (v : Writer). v .count) (got .goes-on) in
+      record { few = rw counts (got .few); within = got .within; inside = rw same (back .1) }
 
   pub fits-room : w .at + length octets ≤ length frame
   fits-room = rw size (next-stands frame refl .inside)
 
   pub done-as : next .done ≡ isLast ss
-  done-as = ap (λ (v : Writer). v .done) (got .place .goes-on)
+  done-as = ap (λ (v : Writer). v .done) (got .goes-on)
 
   pub counts-on : next .count ≡ w .count + 1
-  counts-on = ap (λ (v : Writer). v .count) (got .place .goes-on)
+  counts-on = ap (λ (v : Writer). v .count) (got .goes-on)
 
-  short : isLast ss ≡ false → length (got .payload) ≤ 255
-  short more = ltb-false 255 (length (got .payload)) (sym (ap (λ (l : Bool). tooLong l (length (got .payload))) more) ∙ got .place .short)
+  short : isLast ss ≡ false → length (got .payload) ≤ mostNotLast
+  short more = ltb-false mostNotLast (length (got .payload)) (sym (ap (λ (l : Bool). tooLong l (length (got .payload))) more) ∙ got .short)
 
   whole-of : (cs : List joining.Member)
       → octets ≡ shortestHeader (s .cid) (got .ptype) (isNone cs) (length (got .payload)) ++ got .payload
@@ -134,14 +134,14 @@ module _ (table frame : List ℕ) (w : Writer) (s : Sub) (ss : List Sub) (octets
       let to-at : to .at ≡ next .at + length (joined cs) = run .at in
       let next-at : w .at + length octets ≡ next .at = size in
       let joint : length (joined (content ∷ cs)) ≡ length octets + length (joined cs) = ap length (sym whole) ∙ length-append octets (joined cs) in
-      let counts : next .count ≡ w .count + 1 = ap (λ (v : Writer). v .count) (got .place .goes-on) in
+      let counts : next .count ≡ w .count + 1 = ap (λ (v : Writer). v .count) (got .goes-on) in
       let to-count : to .count ≡ next .count + length cs = run .count in
       let fits : w .at + length octets + length (joined cs) ≤ length frame = omega arith in
       record {
         contents = content ∷ cs;
         each-made = ((refl, got .typed, got .makes), run .each-made);
         each = (
-          record { free = got .free; small = octet; four-bits = omega (arith, got .few-types); short = λ more. short (alike ∙ more) },
+          record { free = got .free; small = octet; four-bits = omega (arith, small-typed (foundAt table (s .cid)) (kindOf (s .content)) (got .ptype) (got .typed)); short = λ more. short (alike ∙ more) },
           run .each,
         );
         holds =

@@ -18,7 +18,7 @@ use Rattle.writer.specs.Writer.{freshWriter, Writing, writes, refuses, writing,
 use Rattle.writer.proofs.WriteBack.{too-small, large-enough}
 use Rattle.roundtrip.specs.Demand2.{Sub, AllStated, isLast, took, stopped, after, onwards, first, fed, LessRoom}
 use Rattle.roundtrip.proofs.RoundTrip.{some}
-use Rattle.roundtrip.proofs.Feeding.{Standing, feeding, same-took, first-taken, fits-room, size, next-stands, done-as, counts-on}
+use Rattle.roundtrip.proofs.Feeding.{Standing, feeding, same-took, first-taken, got, fits-room, size, next-stands, done-as, counts-on}
 
 -- the room up to the end of what is written, and beyond it
 written-take : (room octets : List ℕ) (at : ℕ) → at + length octets ≤ length room → take (at + length octets) (written room at octets) ≡ take at room ++ octets
@@ -84,6 +84,7 @@ less-room-from table (s ∷ ss) frame small w to left stated done stands alike i
     let next = one .1 in
     let does = one .2 in
     let octet = stated .0 .octet in
+    let took = got table frame w s ss octets next octet does in
     let run = feeding table (s ∷ ss) frame w to left stated done stands is in
     let stood : Standing next (written frame (w .at) octets) =
     next-stands table frame w s ss octets next octet does (written frame (w .at) octets)
@@ -92,7 +93,7 @@ less-room-from table (s ∷ ss) frame small w to left stated done stands alike i
     ⊎-elim
     (λ short.
     let refused : first table small w s ss ≡ refuses roomTooSmall =
-    too-small (length frame) (length small) w (isLast ss) (foundAt table (s .cid)) (s .cid) (s .content) octets next does short
+    too-small w (isLast ss) (foundAt table (s .cid)) (s .cid) (s .content) octets next took (length small) short
     in
     let kept : take (w .at) left ≡ take (w .at) small =
     ap (take (w .at)) (run .holds) ∙ written-front frame (joined (run .contents)) (w .at) (stands .inside) ∙ alike
@@ -116,7 +117,7 @@ less-room-from table (s ∷ ss) frame small w to left stated done stands alike i
     })
     (λ enough.
     let taken : first table small w s ss ≡ writes octets next =
-    large-enough (length frame) (length small) w (isLast ss) (foundAt table (s .cid)) (s .cid) (s .content) octets next does enough
+    large-enough w (isLast ss) (foundAt table (s .cid)) (s .cid) (s .content) octets next took (length small) enough
     in
     let sum : w .at + length octets ≡ next .at = size table frame w s ss octets next octet does in
     let fits : w .at + length octets ≤ length frame = fits-room table frame w s ss octets next octet does in

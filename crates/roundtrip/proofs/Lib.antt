@@ -3,3 +3,4 @@ pub mod RoundTrip
 pub mod Taken
 pub mod LessRoom
 pub mod Examples
+pub mod AnyRoom

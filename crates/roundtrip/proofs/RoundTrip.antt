@@ -7,9 +7,10 @@ use native.Mathlib.Nat.{zero-add}
 use native.Mathlib.Omega.{arith}
 use lib.ListN.{length, take, drop}
 use lib.Seq.{take-append-seam}
+use Rattle.octets.specs.Room.{written}
 use Rattle.octets.proofs.Order.{clash}
 use Rattle.record.specs.Record.{foundAt}
-use Rattle.frame.specs.Opening.{opening}
+use Rattle.frame.specs.Opening.{opening, mostOctets, mostSubFrames}
 use Rattle.frame.specs.Joining.{joined}
 use Rattle.frame.specs.Joining as joining
 use Rattle.framing.specs.Claims.{Fits, Sound, contentOf, list}
@@ -66,9 +67,9 @@ run-fits : (table frame : List ℕ) (ss : List Sub) (w : Writer) (left : List �
 run-fits table frame ss w left legal =
     let run = legal-run table frame ss w left legal in
     let cs = run .contents in
-    let few : w .count ≤ 64 = run .stands .few in
+    let few : w .count ≤ mostSubFrames = run .stands .few in
     let count : w .count ≡ length cs = run .count ∙ zero-add (length cs) in
-    let most : w .at ≤ 1600 = run .stands .within in
+    let most : w .at ≤ mostOctets = run .stands .within in
     let at : w .at ≡ length (joined cs) = run .at ∙ zero-add (length (joined cs)) in
     record {
       some = some-made table ss cs (some table frame ss w left legal) (run .each-made);
@@ -91,33 +92,25 @@ legal-is-made table frame ss w left legal =
     in
     (cs, run .each-made, run-fits table frame ss w left legal, rw at at here, is, run .holds)
 
+-- the frame that was written
+pub frame-is : (room f : List ℕ) → take (length f) (written room 0 f) ≡ f
+frame-is room f = take-append-seam f (drop (0 + length f) room)
+
 pub written-reads-back : WrittenReadsBack
 written-reads-back table frame ss w left legal =
     let run = legal-run table frame ss w left legal in
     let cs = run .contents in
     let f = joined cs in
     let at : w .at ≡ length f = run .at ∙ zero-add (length f) in
-    let holds : left ≡ f ++ drop (length f) frame = run .holds ∙ ap (λ (n : ℕ). f ++ drop n frame) (zero-add (length f)) in
-    let is : frameOf w left ≡ f = ap₂ take at holds ∙ take-append-seam f (drop (length f) frame) in
-    let few : w .count ≤ 64 = run .stands .few in
-    let count : w .count ≡ length cs = run .count ∙ zero-add (length cs) in
-    let most : w .at ≤ 1600 = run .stands .within in
-    let fits : Fits cs =
-    record {
-      some = some-made table ss cs (some table frame ss w left legal) (run .each-made);
-      most = omega arith;
-      each = run .each;
-      whole = omega arith;
-    }
-    in
-    let opens = opens-to-the-same cs fits in
+    let is : frameOf w left ≡ f = ap₂ take at (run .holds) ∙ frame-is frame f in
+    let opens = opens-to-the-same cs (run-fits table frame ss w left legal) in
     let same : gotten table f ≡ map sameAs ss =
     sym (map-map (got table) (contentOf f) (opening f .subs)) ∙ ap (map (got table)) (opens .1)
     ∙ got-back table ss cs (legal .stated) (run .each-made)
     in
     record {
       inside = run .stands .inside;
-      beyond = holds ∙ ap₂ (λ (a : List ℕ) (n : ℕ). a ++ drop n frame) (sym is) (sym at);
+      beyond = run .holds ∙ ap₂ (λ (a : List ℕ) (n : ℕ). a ++ drop n frame) (sym is) (zero-add (length f) ∙ sym at);
       sound = subst Sound (sym is) (opens .0);
       same = ap (gotten table) is ∙ same;
       shortest =

@@ -10,14 +10,15 @@ use lib.ListN.{length, length-append}
 use Rattle.octets.specs.Room.{written}
 use Rattle.octets.proofs.Writes.{length-written, written-twice}
 use Rattle.record.specs.Record.{foundAt}
+use Rattle.frame.specs.Opening.{mostOctets, mostSubFrames}
 use Rattle.frame.specs.Joining.{joined, isNone, headerSize, shortestHeader}
 use Rattle.frame.specs.Joining as joining
 use Rattle.frame.proofs.HeaderWritten as header
 use Rattle.framing.specs.Claims.{Carriable, Each}
 use Rattle.writer.specs.declared.place.Writer.{Writer}
-use Rattle.writer.specs.Writer.{freshWriter, tooLong, Writing, writes, writing, leftWriting}
-use Rattle.writer.proofs.WriteBack.{takes}
-use Rattle.roundtrip.specs.Demand2.{Sub, isLast, took, after, onwards, first, fed, AllMade, MadeIsTaken}
+use Rattle.writer.specs.Writer.{freshWriter, mostNotLast, tooLong, Writing, writes, writing, leftWriting}
+use Rattle.writer.proofs.WriteBack.{Took, large-enough}
+use Rattle.roundtrip.specs.Demand2.{Sub, took, after, onwards, first, fed, AllMade, MadeIsTaken}
 use Rattle.roundtrip.proofs.Feeding.{last-alike, none-written}
 
 -- the writer after these, from where it stood
@@ -26,12 +27,12 @@ beyond w cs = record { at = w .at + length (joined cs); count = w .count + lengt
 
 short : (c : joining.Member) (last : Bool) → Carriable c last → tooLong last (length (c .payload)) ≡ false
 short c true fits = refl
-short c false fits = le-ltb 255 (length (c .payload)) (fits .short refl)
+short c false fits = le-ltb mostNotLast (length (c .payload)) (fits .short refl)
 
 -- the first sub-frame is written as its header and its payload
 module _ (table frame : List ℕ) (w : Writer) (s : Sub) (ss : List Sub) (c : joining.Member) (cs : List joining.Member)
-    (all : AllMade table (s ∷ ss) (c ∷ cs)) (each : Each (c ∷ cs)) (going : w .done ≡ false) (few : w .count + length (c ∷ cs) ≤ 64)
-    (within : w .at + length (joined (c ∷ cs)) ≤ 1600) (inside : w .at + length (joined (c ∷ cs)) ≤ length frame) where
+    (all : AllMade table (s ∷ ss) (c ∷ cs)) (each : Each (c ∷ cs)) (going : w .done ≡ false) (few : w .count + length (c ∷ cs) ≤ mostSubFrames)
+    (within : w .at + length (joined (c ∷ cs)) ≤ mostOctets) (inside : w .at + length (joined (c ∷ cs)) ≤ length frame) where
   octets : List ℕ
   octets = shortestHeader (c .cid) (c .ptype) (isNone cs) (length (c .payload)) ++ c .payload
 
@@ -49,29 +50,41 @@ module _ (table frame : List ℕ) (w : Writer) (s : Sub) (ss : List Sub) (c : jo
   unfolding joined octets
   whole = length-append (shortestHeader (c .cid) (c .ptype) (isNone cs) (length (c .payload)) ++ c .payload) (joined cs)
 
-  does : first table frame w s ss ≡ writes octets next
+  within-next : next .at ≤ mostOctets
+  unfolding next
+  within-next = omega (arith, whole)
+
+  inside-next : next .at ≤ length frame
+  unfolding next
+  inside-next = omega (arith, whole)
+
+  will-take : Took w (isNone cs) (foundAt table (s .cid)) (s .cid) (s .content) octets next
   unfolding octets next
-  does =
+  will-take =
       let cid : c .cid ≡ s .cid = all .0 .0 in
-      let alike : isLast ss ≡ isNone cs = last-alike table ss cs (all .1) in
-      let sum : length (joined (c ∷ cs)) ≡ length octets + length (joined cs) = whole in
       let one : headerSize (c .cid) (c .ptype) (isNone cs) + length (c .payload) ≡ length octets = size in
-      let most : w .at + headerSize (c .cid) (c .ptype) (isNone cs) + length (c .payload) ≤ 1600 = omega arith in
-      let room : w .at + headerSize (c .cid) (c .ptype) (isNone cs) + length (c .payload) ≤ length frame = omega arith in
+      let at : w .at + length octets ≡ w .at + headerSize (c .cid) (c .ptype) (isNone cs) + length (c .payload) = omega arith in
       let first-free : 4 ≤ c .cid = each .0 .free in
-      let at : w .at + headerSize (c .cid) (c .ptype) (isNone cs) + length (c .payload) ≡ w .at + length octets = omega arith in
-      let one-more : w .count + 1 ≤ 64 = omega arith in
-      ap (λ (l : Bool). writing (length frame) w l (foundAt table (s .cid)) (s .cid) (s .content)) alike
-      ∙ takes (length frame) w (isNone cs) (foundAt table (s .cid)) (s .cid) (s .content) (c .ptype) (c .payload) going (rw cid at first-free)
-      (all .0 .1)
-      (all .0 .2)
-      (short c (isNone cs) (each .0))
-      one-more
-      (rw cid at most)
-      (rw cid at room)
-      ∙ ap (λ (n : ℕ). writes (shortestHeader n (c .ptype) (isNone cs) (length (c .payload)) ++ c .payload)
-      (record { at = w .at + headerSize n (c .ptype) (isNone cs) + length (c .payload); count = w .count + 1; done = isNone cs })) (sym cid)
-      ∙ ap (λ (n : ℕ). writes octets (record { at = n; count = w .count + 1; done = isNone cs })) at
+      record {
+        ptype = c .ptype;
+        payload = c .payload;
+        going = going;
+        free = rw cid at first-free;
+        typed = all .0 .1;
+        makes = all .0 .2;
+        are = ap (λ (n : ℕ). shortestHeader n (c .ptype) (isNone cs) (length (c .payload)) ++ c .payload) cid;
+        goes-on =
+            ap (λ (n : ℕ). record { at = n; count = w .count + 1; done = isNone cs }) at
+            ∙ ap (λ (n : ℕ). record { at = w .at + headerSize n (c .ptype) (isNone cs) + length (c .payload); count = w .count + 1; done = isNone cs }) cid;
+        short = short c (isNone cs) (each .0);
+        few = omega arith;
+        within = within-next;
+      }
+
+  does : first table frame w s ss ≡ writes octets next
+  does =
+      ap (λ (l : Bool). writing (length frame) w l (foundAt table (s .cid)) (s .cid) (s .content)) (last-alike table ss cs (all .1))
+      ∙ large-enough w (isNone cs) (foundAt table (s .cid)) (s .cid) (s .content) octets next will-take (length frame) inside-next
 
   next-done : next .done ≡ isNone cs
   unfolding next
@@ -86,11 +99,11 @@ module _ (table frame : List ℕ) (w : Writer) (s : Sub) (ss : List Sub) (c : jo
       let sum : length (joined (c ∷ cs)) ≡ length octets + length (joined cs) = whole in
       length-written frame octets (w .at) (omega arith)
 
-  few-left : next .count + length cs ≤ 64
+  few-left : next .count + length cs ≤ mostSubFrames
   unfolding next
   few-left = omega arith
 
-  within-left : next .at + length (joined cs) ≤ 1600
+  within-left : next .at + length (joined cs) ≤ mostOctets
   unfolding next
   within-left = let sum : length (joined (c ∷ cs)) ≡ length octets + length (joined cs) = whole in omega arith
 
@@ -116,8 +129,8 @@ made-taken : (table : List ℕ) (ss : List Sub) (cs : List joining.Member) (fram
     → AllMade table ss cs
     → Each cs
     → w .done ≡ isNone cs
-    → w .count + length cs ≤ 64
-    → w .at + length (joined cs) ≤ 1600
+    → w .count + length cs ≤ mostSubFrames
+    → w .at + length (joined cs) ≤ mostOctets
     → w .at + length (joined cs) ≤ length frame
     → fed table frame w ss ≡ took (beyond w cs) (written frame (w .at) (joined cs))
 unfolding fed joined
@@ -150,8 +163,8 @@ none-done (c ∷ cs) some = refl
 
 pub made-is-taken : MadeIsTaken
 made-is-taken table frame ss cs all fits room =
-    let most : length cs ≤ 64 = fits .most in
-    let whole : length (joined cs) ≤ 1600 = fits .whole in
+    let most : length cs ≤ mostSubFrames = fits .most in
+    let whole : length (joined cs) ≤ mostOctets = fits .whole in
     made-taken table ss cs frame freshWriter all (fits .each) (none-done cs (fits .some)) (omega arith) (omega arith) (omega arith)
     ∙ ap (λ (n : ℕ). took (record { at = n; count = 0 + length cs; done = true }) (written frame 0 (joined cs))) (zero-add (length (joined cs)))
     ∙ ap (λ (n : ℕ). took (record { at = length (joined cs); count = n; done = true }) (written frame 0 (joined cs))) (zero-add (length cs))

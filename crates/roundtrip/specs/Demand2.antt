@@ -177,3 +177,12 @@ LessRoom =
     → Legal table frame ss w left
     → length small < w .at
     → CutShort table frame small ss left
+
+-- Any room that suffices: a list that is legal in one lent frame is legal in every other that has the octets, and what is written
+-- there is the same frame.
+abbrev pub AnyRoom : Type 0
+AnyRoom =
+    (table frame other : List ℕ) (ss : List Sub) (w : Writer) (left : List ℕ)
+    → Legal table frame ss w left
+    → w .at ≤ length other
+    → (there : List ℕ) × Legal table other ss w there × (frameOf w there ≡ frameOf w left)

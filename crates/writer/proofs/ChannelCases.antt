@@ -1,6 +1,6 @@
 -- What the tests on a sub-channel tell, 24, 4, 11, 12, and what is known of one that takes a content.
 use Prim.Native.Nat.{ℕ, _<_, _≤_}
-use mathlib.Core.Path.{_≡_, refl, sym, ap, subst, _∙_}
+use mathlib.Core.Path.{_≡_, sym, ap, subst, _∙_}
 use mathlib.Core.List.{[], _∷_}
 use mathlib.Core.Bool.{true, false}
 use native.Mathlib.Omega.{arith}
@@ -75,6 +75,10 @@ small-type FaxFamily AFax = omega arith
 small-type FaxFamily ASid = tt
 small-type FaxFamily AData = tt
 
+pub small-typed : (found : Found) (kind : Kind) (ptype : ℕ) → typeFor found kind ≡ Typed ptype → ptype ≤ 4
+small-typed (Provisioned r) kind ptype is = subst (atMost 4) is (small-type (familyOf (r .syntax)) kind)
+small-typed Unprovisioned kind ptype is = subst (atMost 4) is tt
+
 refused-not : {A : Type 0} (n ptype : ℕ) (r : Record) → TakesNot n ≡ Takes r ptype → A
 refused-not n ptype r e = let z : _≡_ {A = ℕ} 0 1 = cc in absurd (omega arith)
 
@@ -85,24 +89,17 @@ same-channel r s a b e = (cc, cc)
 pub record Taking (w : Writer) (found : Found) (cid : ℕ) (kind : Kind) (r : Record) (ptype : ℕ) : Type 0 where
   pub going : w .done ≡ false
   pub free : 4 ≤ cid
-  pub typed : typeFor found kind ≡ Typed ptype
   pub provisioned : found ≡ Provisioned r
-  pub small : ptype ≤ 4
+  pub typed : typeFor found kind ≡ Typed ptype
 
-typed-back : (s : Record) (kind : Kind) (t : TypeFor) (r : Record) (ptype : ℕ)
-    → typeFor (Provisioned s) kind ≡ t
-    → typedOn s t ≡ Takes r ptype
-    → (typeFor (Provisioned s) kind ≡ Typed ptype) × (Provisioned s ≡ Provisioned r) × (ptype ≤ 4)
-typed-back s kind (Typed p) r ptype is e =
-    let same = same-channel _ _ _ _ e in
-    let small : p ≤ 4 = subst (atMost 4) is (small-type (familyOf (s .syntax)) kind) in
-    (is ∙ ap Typed (same .1), ap Provisioned (same .0), rw (← same .1) small)
-typed-back s kind (NoType n) r ptype is e = refused-not n ptype r e
+typed-back : (s : Record) (t : TypeFor) (r : Record) (ptype : ℕ) → typedOn s t ≡ Takes r ptype → (Provisioned s ≡ Provisioned r) × (t ≡ Typed ptype)
+typed-back s (Typed p) r ptype e = let same = same-channel _ _ _ _ e in (ap Provisioned (same .0), ap Typed (same .1))
+typed-back s (NoType n) r ptype e = refused-not n ptype r e
 
 record-back : (found : Found) (kind : Kind) (r : Record) (ptype : ℕ)
     → onChannel found kind ≡ Takes r ptype
-    → (typeFor found kind ≡ Typed ptype) × (found ≡ Provisioned r) × (ptype ≤ 4)
-record-back (Provisioned s) kind r ptype e = typed-back s kind (typeFor (Provisioned s) kind) r ptype refl e
+    → (found ≡ Provisioned r) × (typeFor found kind ≡ Typed ptype)
+record-back (Provisioned s) kind r ptype e = typed-back s (typeFor (Provisioned s) kind) r ptype e
 record-back Unprovisioned kind r ptype e = refused-not _ ptype r e
 
 pub taking : (w : Writer) (found : Found) (cid : ℕ) (kind : Kind) (r : Record) (ptype : ℕ)
@@ -116,10 +113,4 @@ taking w found cid kind r ptype is =
     is
     in
     let back = record-back found kind r ptype (pass .1) in
-    record {
-      going = pass .0 .0;
-      free = ltb-false cid 4 (pass .0 .1 .0);
-      typed = back .0;
-      provisioned = back .1;
-      small = back .2;
-    }
+    record { going = pass .0 .0; free = ltb-false cid 4 (pass .0 .1 .0); provisioned = back .0; typed = back .1 }

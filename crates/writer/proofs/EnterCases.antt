@@ -23,7 +23,7 @@ use Rattle.writer.specs.declared.place.Channel.the-variants.{Takes, Take
 use Rattle.writer.specs.declared.place.Entered.{Entered}
 use Rattle.writer.specs.declared.place.Entered.the-variants.{Place, NoPlace}
 use Rattle.writer.specs.Writer.{channelFor, mostNotLast, tooLong, placed, entered}
-use Rattle.writer.proofs.ChannelCases.{taking, same-channel}
+use Rattle.writer.proofs.ChannelCases.{small-typed, same-channel, taking}
 use Rattle.writer.proofs.PlaceCases.{never, same-place, Placed, placed-back}
 
 -- a header's length octet is the payload's length, or is not there
@@ -74,7 +74,7 @@ module _ (room : List ℕ) (w : Writer) (last : Bool) (found : Found) (cid : ℕ
             → Enters (Place s start next) left
         has-place {s} {start} {next} {put} {left} has answered leaves =
             let known = taking w found cid kind r ptype (sym told ∙ takes) in
-            let few : ptype ≤ 4 = known .small in
+            let few : ptype ≤ 4 = small-typed found kind ptype (known .typed) in
             let place = placed-back (length room) w last cid r ptype len s start next (sym placing ∙ has) .1 in
             let begins : start ≡ w .at + headerSize cid ptype last = place .starts in
             let ends : next .at ≡ start + len = ap (λ (v : Writer). v .at) (place .goes-on) in

@@ -33,7 +33,6 @@ pub record Took (w : Writer) (last : Bool) (found : Found) (cid : ℕ) (content 
   pub going : w .done ≡ false
   pub free : 4 ≤ cid
   pub typed : typeFor found (kindOf content) ≡ Typed ptype
-  pub few-types : ptype ≤ 4
   pub makes : payloadMade found content ≡ made payload
   pub are : octets ≡ shortestHeader cid ptype last (length payload) ++ payload
   pub goes-on : next ≡ record { at = w .at + headerSize cid ptype last + length payload; count = w .count + 1; done = last }
@@ -78,7 +77,6 @@ module _ (w : Writer) (last : Bool) (found : Found) (cid : ℕ) (content : Conte
               going = known .going;
               free = known .free;
               typed = known .typed;
-              few-types = known .small;
               makes = entry .makes;
               are =
                   sym (same .0)
