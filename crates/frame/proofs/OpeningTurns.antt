@@ -41,9 +41,8 @@ module _ (s : List ℕ) where
   unfolding opening
   refused-is h = simp (ne-eqb (scanned s .number) sound h)
 
-  pub refused-opens :
-      (number at : ℕ) → number ≡ scanned s .number → at ≡ scanned s .at → (number ≡ sound → ⊥) → stopped number at ≡ opening s
-  refused-opens number at p q some = rw (p, q) (sym (refused-is (λ z. some (p ∙ z))))
+  pub refused-opens : (r : Checked) → r ≡ checked (scanned s) → (r .number ≡ sound → ⊥) → stopped (r .number) (r .at) ≡ opening s
+  refused-opens r e some = rw e (sym (refused-is (λ z. some (ap (λ (c : Checked). c .number) e ∙ z))))
 
   pub number-is : opening s .number ≡ scanned s .number
   number-is =

@@ -106,7 +106,7 @@ pub fn open(frame: &[u8]) -> Opened
 {
     let found = check(frame);
     let count = found.count;
-    let mut subs = [NONE; 64];
+    let mut subs = [NONE; MOST_SUB_FRAMES];
     let mut at: usize = 0;
     let mut i: usize = 0;
     while i < count {

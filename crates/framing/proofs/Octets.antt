@@ -8,6 +8,7 @@ use native.Mathlib.Omega.{arith}
 use lib.Dec.{eqb}
 use lib.ListN.{length, replicate}
 use Rattle.octets.specs.Octets.{Octets}
+use Rattle.frame.specs.Opening.{mostOctets}
 use Rattle.frame.specs.Joining.{Member, isNone, joined, eiFor, liFor, shortestHeader}
 use Rattle.frame.proofs.HeaderWritten.{ei-one-of}
 use Rattle.framing.specs.Claims.{Carriable, Each, Fits, PayloadOctets, JoinedOctets, content, fullest}
@@ -79,6 +80,6 @@ fullest-fits =
     }
 
 -- and they use the whole frame
-pub fullest-is-full : length (joined fullest) ≡ 1600
+pub fullest-is-full : length (joined fullest) ≡ mostOctets
 unfolding joined shortestHeader
 fullest-is-full = refl

@@ -13,7 +13,7 @@ use Rattle.refusal.specs.Numbers.{sound}
 use Rattle.frame.specs.declared.header.SubFrame.{SubFrame}
 use Rattle.frame.specs.declared.header.Header.the-variants.{Sub}
 use Rattle.frame.specs.Header.{headerAt}
-use Rattle.frame.specs.Opening.{Opening, scan, scanned, before, stopped, endOf}
+use Rattle.frame.specs.Opening.{mostSubFrames, Opening, scan, scanned, before, stopped, endOf}
 use Rattle.frame.specs.Joining.{Member, isNone, joined, eiFor, liFor, headerWith, shortestHeader, headerSize}
 use Rattle.frame.proofs.HeaderWritten.{ei-one-of, ei-out, ei-set, size-is, some-room}
 use Rattle.frame.proofs.OpeningTurns as turns
@@ -92,13 +92,13 @@ same-from F (c ∷ d ∷ ds) (suc room) at each some most stands =
     (ap (λ (o : Opening). o .number) on ∙ more .0, ap (λ (o : Opening). map (contentOf F) (o .subs)) on ∙ rw (content, more .1))
 
 -- the tests for 1 and 2 are passed
-scans : (cs : List Member) → Fits cs → scanned (joined cs) ≡ scan 64 (joined cs) 0
+scans : (cs : List Member) → Fits cs → scanned (joined cs) ≡ scan mostSubFrames (joined cs) 0
 scans [] fits = absurd (not-suc-le-zero (fits .some))
 scans (c ∷ cs) fits = turns.scans (joined (c ∷ cs)) (λ none. omega (arith, joined-some c cs)) (fits .whole)
 
 pub opens-to-the-same : OpensToTheSame
 opens-to-the-same cs fits =
     let whole = scans cs fits in
-    let same = same-from (joined cs) cs 64 0 (fits .each) (fits .some) (fits .most) refl in
+    let same = same-from (joined cs) cs mostSubFrames 0 (fits .each) (fits .some) (fits .most) refl in
     let good : scanned (joined cs) .number ≡ sound = ap (λ (o : Opening). o .number) whole ∙ same .0 in
     rw (turns.sound-is (joined cs) good ∙ whole) same

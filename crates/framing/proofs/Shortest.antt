@@ -16,7 +16,7 @@ use Rattle.octets.specs.Octets.{Octets}
 use Rattle.frame.specs.declared.header.SubFrame.{SubFrame}
 use Rattle.frame.specs.declared.header.Header.the-variants.{Sub}
 use Rattle.frame.specs.Header.{ei, octet1, headerAt}
-use Rattle.frame.specs.Opening.{Opening, scan, scanned, opening, before, stopped, endOf}
+use Rattle.frame.specs.Opening.{mostOctets, mostSubFrames, Opening, scan, scanned, opening, before, stopped, endOf}
 use Rattle.frame.specs.Joining.{Member, isNone, joined, eiFor, liFor, headerWith, shortestHeader, headerSize}
 use Rattle.frame.proofs.HeaderWritten.{ei-one-of, with-size, size-is}
 use Rattle.frame.proofs.HeaderInverse as inverse
@@ -178,20 +178,20 @@ module _ (s : List ℕ) (octets : Octets s) where
       step-from room at (b .0) (b .1) good (λ h g. from room (endOf (b .0)) h g) (b .0 .last) refl
 
 -- a sound frame is neither empty nor too long
-passes : (s : List ℕ) → Sound s → (1 ≤ length s) × (length s ≤ 1600)
+passes : (s : List ℕ) → Sound s → (1 ≤ length s) × (length s ≤ mostOctets)
 passes s good =
     let number : scanned s .number ≡ sound = sym (turns.number-is s) ∙ good in
     ⊎-elim (λ empty. absurd (omega (arith, ap (λ (o : Opening). o .number) (turns.empty s empty))))
     (λ some.
     ⊎-elim (λ long. absurd (omega (arith, ap (λ (o : Opening). o .number) (turns.long s some long)))) (λ short. (omega arith, short))
-    (lt-or-le 1600 (length s)))
+    (lt-or-le mostOctets (length s)))
     (eq-or-ne (length s) 0)
 
 pub as-long-as-joined : AsLongAsJoined
 as-long-as-joined s octets good =
     let p = passes s good in
-    let is : opening s ≡ scan 64 s 0 = turns.sound-is s (sym (turns.number-is s) ∙ good) ∙ turns.scans s (λ z. omega (arith, p .0)) (p .1) in
-    let f = subst (λ (o : Opening). From s 64 0 (o .subs)) (sym is) (from s octets 64 0 (p .0) (sym (ap (λ (o : Opening). o .number) is) ∙ good)) in
+    let is : opening s ≡ scan mostSubFrames s 0 = turns.sound-is s (sym (turns.number-is s) ∙ good) ∙ turns.scans s (λ z. omega (arith, p .0)) (p .1) in
+    let f = subst (λ (o : Opening). From s mostSubFrames 0 (o .subs)) (sym is) (from s octets mostSubFrames 0 (p .0) (sym (ap (λ (o : Opening). o .number) is) ∙ good)) in
     let whole : length s - 0 ≡ length (joined (list s)) + needless s 0 (opening s .subs) = f .longer in
     record {
       fits =

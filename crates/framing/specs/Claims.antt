@@ -11,7 +11,7 @@ use Rattle.octets.specs.Octets.{Octets}
 use Rattle.refusal.specs.Numbers.{sound}
 use Rattle.frame.specs.declared.header.SubFrame.{SubFrame}
 use Rattle.frame.specs.Header.{ei}
-use Rattle.frame.specs.Opening.{opening, endOf}
+use Rattle.frame.specs.Opening.{mostOctets, mostSubFrames, opening, endOf}
 use Rattle.frame.specs.Joining.{Member, isNone, joined, eiFor}
 
 -- CIDs 4 to 255, types 0 to 15, a payload of at most 255 octets unless it is the last.
@@ -28,9 +28,9 @@ Each (c ∷ cs) = Carriable c (isNone cs) × Each cs
 -- A list that fits a frame: 1 to 64 sub-frames, 1,600 octets in all.
 pub record Fits (cs : List Member) : Type 0 where
   pub some : 1 ≤ length cs
-  pub most : length cs ≤ 64
+  pub most : length cs ≤ mostSubFrames
   pub each : Each cs
-  pub whole : length (joined cs) ≤ 1600
+  pub whole : length (joined cs) ≤ mostOctets
 
 -- What a sub-frame of the frame s holds.
 abbrev pub contentOf : List ℕ → SubFrame → Member

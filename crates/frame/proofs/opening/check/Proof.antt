@@ -27,22 +27,17 @@ refused-requires c κs = search needs
 
 returns : tie.Need-returns
 returns c =
-    let e = turns.empty (c .before .before .before .args .frame .now) (c .before .if1 .taken) in
-    parts _ _
-    (c .refused .ensures
-    ∙ ap checked
-    (turns.refused-opens _ _ _ (sym (ap (λ (o : Opening). o .number) e)) (sym (ap (λ (o : Opening). o .at) e)) (λ z. omega (arith, z))))
+    let e = ap checked (sym (turns.empty (c .before .before .before .args .frame .now) (c .before .if1 .taken))) in
+    parts _ _ (c .refused .ensures ∙ ap checked (turns.refused-opens _ _ e (λ z. omega (arith, z))))
 
 refused-requires-2 : tie.Need-refused-requires-2
 refused-requires-2 c κs = search needs
 
 returns-2 : tie.Need-returns-2
 returns-2 c =
-    let e = turns.long (c .before .before .before .before .args .frame .now) (c .before .before .if1 .left) (c .before .if2 .taken) in
-    parts _ _
-    (c .refused2 .ensures
-    ∙ ap checked
-    (turns.refused-opens _ _ _ (sym (ap (λ (o : Opening). o .number) e)) (sym (ap (λ (o : Opening). o .at) e)) (λ z. omega (arith, z))))
+    let s = c .before .before .before .before .args .frame .now in
+    let e = ap checked (sym (turns.long s (c .before .before .if1 .left) (c .before .if2 .taken))) in
+    parts _ _ (c .refused2 .ensures ∙ ap checked (turns.refused-opens _ _ e (λ z. omega (arith, z))))
 
 scan-from-requires : tie.Need-scan-from-requires
 scan-from-requires c κs = search needs
@@ -57,10 +52,8 @@ refused-requires-3 c κs = search needs
 
 returns-4 : tie.Need-returns-4
 returns-4 c =
-    let e = scanned-is (c .before .before .before) in
     parts _ _
-    (c .refused3 .ensures
-    ∙ ap checked (turns.refused-opens _ _ _ (ap (λ (r : Checked). r .number) e) (ap (λ (r : Checked). r .at) e) (c .before .if3 .left)))
+    (c .refused3 .ensures ∙ ap checked (turns.refused-opens _ _ (scanned-is (c .before .before .before)) (c .before .if3 .left)))
 
 pub check-spec : {M : Type 1} → statement M
 check-spec =
