@@ -11,7 +11,7 @@ use Rattle.provisioning.specs.Text.{walk, reading}
 use Rattle.frame.specs.Header.{told, headerAt}
 use Rattle.frame.specs.Opening.{scan, scanned, opening}
 use Rattle.payload.specs.Layout.{onVoice, onFax, onData}
-use Rattle.digits.specs.Layout.{judged, digitsRead}
+use Rattle.digits.specs.Layout.{digitsRead}
 use Rattle.recording.specs.Hex.{hexValue, anyOther, paired}
 use Rattle.recording.specs.Line.{lineRead}
 use Rattle.recording.specs.Pieces.{textFrom, lineSize}
@@ -32,5 +32,5 @@ printed =
     ("frame=0" ∷ "subs=2" ∷ "cid=5" ∷ "type=1" ∷ "len=8" ∷ "answer=0" ∷ "cid=6" ∷ "type=0" ∷ "len=1" ∷ "answer=11" ∷ [])
 
 pub lists : listing input ≡ printed
-unfolding input printed listing linesListing lineListing openedListing refusedListing subsListing subListing fourFields field digits lineRead anyOther paired hexValue textFrom lineSize reading walk lineBy valueLine numberBy secondDigit thirdDigit digitOf wordAmong starts hasLf opening scanned scan headerAt told foundAt meaning packed syntaxAt onVoice onFax onData digitsRead judged
+unfolding input printed listing linesListing lineListing openedListing refusedListing subsListing subListing fourFields field digits lineRead anyOther paired hexValue textFrom lineSize reading walk lineBy valueLine numberBy secondDigit thirdDigit digitOf wordAmong starts hasLf opening scanned scan headerAt told foundAt meaning packed syntaxAt onVoice onFax onData digitsRead
 lists = refl
