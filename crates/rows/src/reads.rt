@@ -26,7 +26,7 @@ fn check(acc: u64, frame: &[u8]) -> u64 {
 }
 
 // What the voice card is handed: the source, the octets, the first of them.
-fn hand(acc: u64, frame: &[u8], silence: &[u8], table: &[u16; 256]) -> u64 {
+fn hand<'a>(acc: u64, frame: &'a [u8], silence: &'a [u8], table: &[u16; 256]) -> u64 {
     let mut source: u8 = 0;
     let octets = card::handing::hand(frame, silence, table, CARD, &mut source);
     handed(octet(acc, source), octets)

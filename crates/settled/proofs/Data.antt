@@ -1,4 +1,5 @@
 -- One answer only: the public functions of `data`.
+use mathlib.Core.Bool.{true}
 use mathlib.Core.Path.{refl, sym, _∙_}
 use denote.Ref.{now}
 use Rattle.settled.specs.Settled.{OneAnswer, nothing}

@@ -32,7 +32,7 @@ fn malformed(number: u64) {
 }
 
 // `card=`: cid.
-fn card(frame: &[u8], silence: &[u8], table: &[u16; 256], octets: &[u8]) {
+fn card<'a>(frame: &'a [u8], silence: &'a [u8], table: &[u16; 256], octets: &[u8]) {
     let mut source: u8 = 0;
     let handed = card::handing::hand(frame, silence, table, octets::octet(octets, 0), &mut source);
     crate::print::number(b"source=", source as u64);
@@ -40,9 +40,26 @@ fn card(frame: &[u8], silence: &[u8], table: &[u16; 256], octets: &[u8]) {
 }
 
 // Keeps octets at the start of a room that has them.
-fn keep(room: &mut [u8; 1700], octets: &[u8]) -> usize {
+fn keep(room: &mut [u8], octets: &[u8]) -> usize {
     octets::put_octets(room, 0, octets);
     octets.len()
+}
+
+// The octets of a room that are in use.
+fn front(room: &[u8], size: usize) -> &[u8] {
+    if room.len() < size {
+        return &room[..0];
+    }
+    &room[0..size]
+}
+
+// Every octet of the lent frame is `ee`.
+fn cleared(lent: &mut [u8]) {
+    let mut i: usize = 0;
+    while i < lent.len() {
+        lent[i] = 0xee;
+        i += 1;
+    }
 }
 
 // A well-formed line of a kind, its octets decoded.
@@ -50,39 +67,36 @@ fn take(
     kind: Kind,
     octets: &[u8],
     table: &[u16; 256],
-    frame: &mut [u8; 1700],
-    silence: &mut [u8; 1700],
-    lent: &mut [u8; 1700],
+    frame: &mut [u8],
+    silence: &mut [u8],
+    lent: &mut [u8],
     stands: Stands,
 ) -> Stands {
     let writer = stands.writer;
-    let room = octets::least(stands.room, 1700);
     match kind {
         Kind::Frame => Stands {
             frame: keep(frame, octets),
             silence: stands.silence,
-            room,
+            room: stands.room,
             writer,
         },
         Kind::Silence => Stands {
             frame: stands.frame,
             silence: keep(silence, octets),
-            room,
+            room: stands.room,
             writer,
         },
         Kind::Card => {
-            let frame_size = octets::least(stands.frame, 1700);
-            let silence_size = octets::least(stands.silence, 1700);
             card(
-                &frame[..frame_size],
-                &silence[..silence_size],
+                front(frame, stands.frame),
+                front(silence, stands.silence),
                 table,
                 octets,
             );
             stands
         }
         Kind::Room => {
-            *lent = [0xee; 1700];
+            cleared(lent);
             Stands {
                 frame: stands.frame,
                 silence: stands.silence,
@@ -91,16 +105,19 @@ fn take(
             }
         }
         Kind::Shown => {
-            crate::print::octets(b"lent=", &lent[..room]);
+            crate::print::octets(b"lent=", front(lent, stands.room));
             stands
         }
         Kind::Unknown => stands,
-        Kind::Written(content) => Stands {
-            frame: stands.frame,
-            silence: stands.silence,
-            room,
-            writer: crate::write::write(content, &mut lent[..room], writer, table, octets),
-        },
+        Kind::Written(content) => {
+            let room = octets::least(stands.room, lent.len());
+            Stands {
+                frame: stands.frame,
+                silence: stands.silence,
+                room,
+                writer: crate::write::write(content, &mut lent[0..room], writer, table, octets),
+            }
+        }
     }
 }
 
@@ -109,9 +126,9 @@ fn answer(
     number: u64,
     text: &[u8],
     table: &[u16; 256],
-    frame: &mut [u8; 1700],
-    silence: &mut [u8; 1700],
-    lent: &mut [u8; 1700],
+    frame: &mut [u8],
+    silence: &mut [u8],
+    lent: &mut [u8],
     stands: Stands,
 ) -> Stands {
     let kind = crate::line::kind_of(text);
@@ -134,9 +151,9 @@ fn turn(
     room: &mut [u8],
     input: Input,
     table: &[u16; 256],
-    frame: &mut [u8; 1700],
-    silence: &mut [u8; 1700],
-    lent: &mut [u8; 1700],
+    frame: &mut [u8],
+    silence: &mut [u8],
+    lent: &mut [u8],
     stands: Stands,
 ) -> Step {
     let read = crate::input::read_line(block, room, input);
@@ -164,7 +181,7 @@ fn turn(
 fn run(block: &mut [u8], room: &mut [u8], begins: Input, table: &[u16; 256]) {
     let mut frame = [0u8; 1700];
     let mut silence = [0u8; 1700];
-    let mut lent = [0xee; 1700];
+    let mut lent = [0xeeu8; 1700];
     let mut stands = Stands {
         frame: 0,
         silence: 0,
@@ -201,7 +218,7 @@ fn main() {
     let mut table = [0u16; 256];
     let n = io::read_full(libc::STDIN_FILENO, &mut block);
     let end = recording::pieces::text_end(&block[..n]);
-    match provisioning::text::read_text(&block[..end], &mut table) {
+    match provisioning::text::read_text(front(&block, end), &mut table) {
         TextAnswer::Taken(_) => {
             run(&mut block, &mut room, crate::input::behind(end, n), &table);
         }

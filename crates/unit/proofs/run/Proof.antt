@@ -1,0 +1,81 @@
+-- `unit::run` is safe and ends: the measure is how many lines more could be numbered.
+use Prim.Native.Nat.{_-_, _^_}
+use mathlib.Core.Path.{_≡_}
+use native.Mathlib.Omega.{arith}
+use lib.ListN.{length}
+use borrow.Author.Needs.{needs}
+use Rattle.unit.proofs.run.Statement.{statement}
+use Rattle.unit.proofs.run.Tie as tie
+
+abbrev Inv-loop : tie.InvT-loop
+Inv-loop block₀ room₀ table frame₀ silence₀ lent₀ stands₀ input₀ number₀ block room frame silence lent stands input number = (length block ≡ length block₀) × (length room ≡ length room₀) × (length frame ≡ 1700) × (length silence ≡ 1700) × (length lent ≡ 1700)
+
+abbrev μ-loop : tie.MeasureT-loop
+μ-loop block₀ room₀ table frame₀ silence₀ lent₀ stands₀ input₀ number₀ block room frame silence lent stands input number = 2 ^ 64 - number
+
+fresh-requires : tie.Need-fresh-requires Inv-loop μ-loop
+fresh-requires c κs = tt
+
+loop-holds : tie.Need-loop-holds Inv-loop μ-loop
+loop-holds c = search needs
+
+add-number : tie.Need-add-number Inv-loop μ-loop
+add-number c = omega arith
+
+slice-aggregate-turn : tie.Need-slice-aggregate-turn Inv-loop μ-loop
+slice-aggregate-turn c = search needs
+
+slice-aggregate-turn-2 : tie.Need-slice-aggregate-turn-2 Inv-loop μ-loop
+slice-aggregate-turn-2 c = search needs
+
+slice-aggregate-turn-3 : tie.Need-slice-aggregate-turn-3 Inv-loop μ-loop
+slice-aggregate-turn-3 c = search needs
+
+turn-requires : tie.Need-turn-requires Inv-loop μ-loop
+turn-requires c κs = tt
+
+same-length : tie.Need-same-length Inv-loop μ-loop
+same-length c = search needs
+
+same-length-2 : tie.Need-same-length-2 Inv-loop μ-loop
+same-length-2 c = search needs
+
+returns : tie.Need-returns Inv-loop μ-loop
+returns c = tt
+
+loop-less : tie.Need-loop-less Inv-loop μ-loop
+loop-less c = omega arith
+
+loop-again : tie.Need-loop-again Inv-loop μ-loop
+loop-again c = search needs
+
+same-length-3 : tie.Need-same-length-3 Inv-loop μ-loop
+same-length-3 c = search needs
+
+same-length-4 : tie.Need-same-length-4 Inv-loop μ-loop
+same-length-4 c = search needs
+
+returns-2 : tie.Need-returns-2 Inv-loop μ-loop
+returns-2 c = tt
+
+pub run-spec : {M : Type 1} → statement M
+run-spec =
+    tie.close
+    (tie.spec
+    Inv-loop
+    μ-loop
+    fresh-requires
+    loop-holds
+    add-number
+    slice-aggregate-turn
+    slice-aggregate-turn-2
+    slice-aggregate-turn-3
+    turn-requires
+    same-length
+    same-length-2
+    returns
+    loop-less
+    loop-again
+    same-length-3
+    same-length-4
+    returns-2)
