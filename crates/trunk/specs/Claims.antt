@@ -26,7 +26,7 @@ pub record Leaves : Type 0 where
   -- a digits payload leaves the signalling receiver, a signalling payload the digit receiver
   pub digits : (t : Trunk) (found : Found) (ptype : ℕ) (p : List ℕ) → layoutOf found ptype ≡ OfDigits → taken t found ptype p .trunk .signalling ≡ t .signalling
   pub signalling : (t : Trunk) (found : Found) (ptype : ℕ) (p : List ℕ) → layoutOf found ptype ≡ OfSignalling → taken t found ptype p .trunk .digits ≡ t .digits
-  -- voice leaves the signalling receiver, and the sequence and the record of the digit receiver
+  -- voice leaves the signalling receiver, and the last sequence of the digit receiver
   pub voice : (t : Trunk) (found : Found) (ptype : ℕ) (p : List ℕ) (r : Record) → layoutOf found ptype ≡ OfVoice r → taken t found ptype p .trunk .signalling ≡ t .signalling
   pub voice-last : (t : Trunk) (found : Found) (ptype : ℕ) (p : List ℕ) (r : Record) → layoutOf found ptype ≡ OfVoice r → taken t found ptype p .trunk .digits .last ≡ t .digits .last
   -- a silence descriptor, fax and data leave the whole trunk
