@@ -1,5 +1,6 @@
 -- `writer::signalled::fit_on` meets its contract.
 use borrow.Author.Needs.{needs}
+use Rattle.writer.proofs.WriteCases as cases
 use Rattle.writer.proofs.signalled.fit_on.Statement.{statement}
 use Rattle.writer.proofs.signalled.fit_on.Tie as tie
 
