@@ -1,15 +1,16 @@
 -- What `told` gives in each of its cases, and `headerAt` of it.
 use Prim.Native.Nat.{ℕ, _+_, _-_, _<_, _≤_}
-use mathlib.Core.Path.{_≡_, _∙_}
+use mathlib.Core.Path.{_≡_, subst, _∙_}
 use mathlib.Core.List.{List}
-use mathlib.Core.Bool.{true, false, cond}
+use mathlib.Core.Bool.{Bool, true, false, cond}
 use native.Mathlib.Omega.{arith}
 use borrow.Author.Tests.{lt-ltb, le-ltb, eq-eqb, ne-eqb}
 use lib.Dec.{ltb, eqb}
 use lib.ListN.{length, drop}
-use Rattle.refusal.specs.Numbers.{headerCut, cidReserved, spareBitSet, lengthPastField, lastWithLength}
+use Rattle.refusal.specs.Numbers.{sound, headerCut, cidReserved, spareBitSet, lengthPastField, lastWithLength}
+use Rattle.frame.specs.declared.header.Header.{Header}
 use Rattle.frame.specs.declared.header.Header.the-variants.{Sub, Bad, Past}
-use Rattle.frame.specs.Header.{li, spare, payloadType, size, octet1, octet1a, octet1b, cidOf, told, headerAt}
+use Rattle.frame.specs.Header.{li, spare, payloadType, size, octet1, octet1a, octet1b, cidOf, isLast, _unless_, told, headerAt}
 
 module _ (at o a b n : ℕ) where
   pub cut : n < size o → told at o a b n ≡ Bad headerCut
@@ -72,3 +73,27 @@ module _ (s : List ℕ) (at : ℕ) where
       → headerAt s at ≡ told at (octet1 (drop at s)) (octet1a (drop at s)) (octet1b (drop at s)) (length (drop at s))
   unfolding headerAt
   there here = simp (lt-ltb at (length s) here)
+
+-- a refused header has a number
+abbrev Numbered : Header → Type 0
+Numbered (Sub sub) = Unit
+Numbered (Bad number) = number ≡ sound → ⊥
+Numbered Past = Unit
+
+either : (b : Bool) (x y : Header) → Numbered x → Numbered y → Numbered (cond b x y)
+either true x y p q = p
+either false x y p q = q
+
+told-numbered : (at o a b n : ℕ) → Numbered (told at o a b n)
+unfolding told
+told-numbered at o a b n =
+    either (ltb n (size o)) _ _ (λ e. omega arith)
+    (either (ltb (cidOf o a) 4) _ _ (λ e. omega arith)
+    (either (ltb 0 (spare a)) _ _ (λ e. omega arith)
+    (either (ltb (n - size o) b unless isLast o) _ _ (λ e. omega arith)
+    (either (eqb (n - size o) b unless isLast o) _ _ (λ e. omega arith) tt))))
+
+pub refused-numbered : (s : List ℕ) (at number : ℕ) → headerAt s at ≡ Bad number → number ≡ sound → ⊥
+unfolding headerAt
+refused-numbered s at number e =
+    subst Numbered e (either (ltb at (length s)) _ _ (told-numbered at (octet1 (drop at s)) (octet1a (drop at s)) (octet1b (drop at s)) (length (drop at s))) tt)

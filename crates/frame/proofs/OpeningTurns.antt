@@ -11,12 +11,19 @@ use lib.ListN.{length, length-append}
 use lib.Seq.{append-snoc}
 use Rattle.octets.proofs.Order.{lt-or-le, eq-or-ne}
 use Rattle.refusal.specs.Numbers.{sound, fieldEmpty, fieldTooLong, tooManySubFrames}
+use Rattle.refusal.specs.Order.{inOrder}
 use Rattle.frame.specs.declared.header.SubFrame.{SubFrame}
 use Rattle.frame.specs.declared.header.Header.{Header}
 use Rattle.frame.specs.declared.header.Header.the-variants.{Sub, Bad, Past}
 use Rattle.frame.specs.declared.opening.Checked.{Checked}
 use Rattle.frame.specs.Header.{headerAt}
-use Rattle.frame.specs.Opening.{mostOctets, mostSubFrames, Opening, stopped, before, endOf, endOfHeader, onwards, scan, scanned, opening, checked}
+use Rattle.frame.specs.Opening.{mostOctets, mostSubFrames, Opening, stopped, before, endOf, endOfHeader, onwards, scan, ofField, scanned, opening, checked}
+
+empty-not : fieldEmpty ≡ sound → ⊥
+empty-not e = omega arith
+
+long-not : fieldTooLong ≡ sound → ⊥
+long-not e = omega arith
 
 module _ (s : List ℕ) where
   pub empty : length s ≡ 0 → scanned s ≡ stopped fieldEmpty 0
@@ -31,6 +38,31 @@ module _ (s : List ℕ) where
     pub scans : length s ≤ mostOctets → scanned s ≡ scan mostSubFrames s 0
     unfolding scanned
     scans h = simp (ne-eqb (length s) 0 some, le-ltb mostOctets (length s) h)
+
+  -- the number that the length of the field gives, and the scan by it
+  pub number-empty : length s ≡ 0 → inOrder (ofField (length s)) (λ n. n) sound ≡ fieldEmpty
+  number-empty none = simp (eq-eqb (length s) 0 none)
+
+  module _ (some : length s ≡ 0 → ⊥) where
+    pub number-long : mostOctets < length s → inOrder (ofField (length s)) (λ n. n) sound ≡ fieldTooLong
+    number-long h = simp (ne-eqb (length s) 0 some, lt-ltb mostOctets (length s) h)
+
+    pub number-fits : length s ≤ mostOctets → inOrder (ofField (length s)) (λ n. n) sound ≡ sound
+    number-fits h = simp (ne-eqb (length s) 0 some, le-ltb mostOctets (length s) h)
+
+  pub field-refused : (number : ℕ) → number ≡ inOrder (ofField (length s)) (λ n. n) sound → (number ≡ sound → ⊥) → scanned s ≡ stopped number 0
+  field-refused number is some =
+      ⊎-elim (λ none. empty none ∙ ap (λ (n : ℕ). stopped n 0) (sym (is ∙ number-empty none)))
+      (λ any.
+      ⊎-elim (λ h. long any h ∙ ap (λ (n : ℕ). stopped n 0) (sym (is ∙ number-long any h))) (λ h. absurd (some (is ∙ number-fits any h)))
+      (lt-or-le mostOctets (length s)))
+      (eq-or-ne (length s) 0)
+
+  pub field-sound : inOrder (ofField (length s)) (λ n. n) sound ≡ sound → scanned s ≡ scan mostSubFrames s 0
+  field-sound is =
+      ⊎-elim (λ none. absurd (empty-not (sym (number-empty none) ∙ is)))
+      (λ any. ⊎-elim (λ h. absurd (long-not (sym (number-long any h) ∙ is))) (λ h. scans any h) (lt-or-le mostOctets (length s)))
+      (eq-or-ne (length s) 0)
 
   -- all of a sound scan is handed out, and no sub-frame of any other
   pub sound-is : scanned s .number ≡ sound → opening s ≡ scanned s

@@ -6,7 +6,7 @@ use mathlib.Core.Bool.{cond}
 use lib.Dec.{ltb, eqb}
 use lib.ListN.{length, replicate}
 use Rattle.refusal.specs.Numbers.{sound, fieldEmpty, fieldTooLong, tooManySubFrames}
-use Rattle.refusal.specs.Order.{_gives_, inOrder}
+use Rattle.refusal.specs.Order.{Test, _gives_, inOrder}
 use Rattle.frame.specs.declared.header.SubFrame.{SubFrame}
 use Rattle.frame.specs.declared.header.Header.{Header}
 use Rattle.frame.specs.declared.header.Header.the-variants.{Sub, Bad, Past}
@@ -55,12 +55,13 @@ unfoldable pub scan : ℕ → List ℕ → ℕ → Opening
 scan zero s at = stopped tooManySubFrames at
 scan (suc room) s at = onwards (headerAt s at) at (scan room s (endOfHeader (headerAt s at)))
 
+-- a field of n octets: 1, then 2
+abbrev pub ofField : ℕ → List Test
+ofField n = eqb n 0 gives fieldEmpty ∷ ltb mostOctets n gives fieldTooLong ∷ []
+
 -- the whole field: 1, then 2, then the sub-frames
 unfoldable pub scanned : List ℕ → Opening
-scanned s =
-    inOrder (eqb (length s) 0 gives fieldEmpty ∷ ltb mostOctets (length s) gives fieldTooLong ∷ [])
-    (λ number. stopped number 0)
-    (scan mostSubFrames s 0)
+scanned s = inOrder (ofField (length s)) (λ number. stopped number 0) (scan mostSubFrames s 0)
 
 -- "1 to 8 refuse the whole frame: number, offset .., no sub-frame."
 abbrev pub allOrNone : Opening → Opening

@@ -5,7 +5,9 @@ use crate::header::SubFrame;
 ghost use mathlib.Core.Path.{_≡_};
 ghost use Prim.Native.Nat.{_-_};
 ghost use lib.ListN.{length};
-ghost use Rattle.frame.specs.Opening.{mostSubFrames, scan, stopped, checked, opening, answer};
+ghost use Rattle.refusal.specs.Numbers.{sound};
+ghost use Rattle.refusal.specs.Order.{inOrder};
+ghost use Rattle.frame.specs.Opening.{mostSubFrames, scan, ofField, stopped, checked, opening, answer};
 
 // The largest frame, in octets and in sub-frames (house).
 pub const MOST_OCTETS: usize = 1600;
@@ -70,17 +72,28 @@ pub fn scan_from(frame: &[u8], from: usize, before: usize) -> Checked
     }
 }
 
+// 1, 2: the refusal of the field by its length, 0 where its headers decide.
+pub fn field_refusal(frame: &[u8]) -> u8
+    ensures { λ r. ⌜ r ≡ inOrder (ofField (length (now (frame .entry)))) (λ n. n) sound ⌝ }
+{
+    if frame.len() == 0 {
+        return refusal::FIELD_EMPTY;
+    }
+    if MOST_OCTETS < frame.len() {
+        return refusal::FIELD_TOO_LONG;
+    }
+    refusal::SOUND
+}
+
 // Checks all headers of a frame, for a caller that wants no list of its sub-frames.
 pub fn check(frame: &[u8]) -> Checked
     ensures number { λ r. ⌜ r .number ≡ opening (now (frame .entry)) .number ⌝ }
     ensures at { λ r. ⌜ r .at ≡ opening (now (frame .entry)) .at ⌝ }
     ensures count { λ r. ⌜ r .count ≡ length (opening (now (frame .entry)) .subs) ⌝ }
 {
-    if frame.len() == 0 {
-        return refused(refusal::FIELD_EMPTY, 0);
-    }
-    if MOST_OCTETS < frame.len() {
-        return refused(refusal::FIELD_TOO_LONG, 0);
+    let number = field_refusal(frame);
+    if number != refusal::SOUND {
+        return refused(number, 0);
     }
     let found = scan_from(frame, 0, 0);
     if found.number == refusal::SOUND {

@@ -30,14 +30,8 @@ pub(crate) fn meaning(number: u16) -> Found
     ensures { λ r. ⌜ r ≡ meaning number ⌝ }
 {
     let at = number / 32;
-    if at == 0 {
-        return Found::Unprovisioned;
-    }
-    if 7 < at {
-        return Found::Unprovisioned;
-    }
-    let syntax = crate::syntax::syntax_at(at);
-    if crate::syntax::pair_listed(syntax, number) {
+    if crate::syntax::listed_at(at, number) {
+        let syntax = crate::syntax::syntax_at(at);
         let m = (number / 2 % 16) as u8;
         let seq = number % 2 == 1;
         return Found::Provisioned(Record { syntax, m, seq });
