@@ -1,30 +1,43 @@
 -- What the code finds, by its tests: whether a sub-frame serves, the walk over the sub-frames, and what `hand` makes of it.
-use Prim.Native.Nat.{ℕ, _+_, _-_, _<_, _≤_}
+use Prim.Native.Nat.{ℕ, suc, _+_, _-_, _<_, _≤_}
 use mathlib.Core.Path.{_≡_, refl, sym, ap, subst, _∙_}
 use mathlib.Core.List.{List, [], _∷_}
 use mathlib.Core.Bool.{Bool, true, false, cond}
+use mathlib.Core.Logic.{⊎-elim}
 use native.Mathlib.Omega.{arith}
 use borrow.Author.Tests.{eq-eqb, ne-eqb}
 use lib.Dec.{eqb}
 use lib.ListN.{length, take, drop}
-use Rattle.refusal.specs.Numbers.{sound}
+use Rattle.refusal.specs.Numbers.{sound, tooManySubFrames}
+use Rattle.refusal.specs.Order.{inOrder}
+use Rattle.octets.proofs.Order.{eq-or-ne}
+use Rattle.octets.proofs.Texts.{true-not-false}
+use Rattle.counts.specs.declared.VoiceCount.{VoiceCount}
 use Rattle.frame.specs.declared.header.SubFrame.{SubFrame}
-use Rattle.frame.specs.declared.header.Header.the-variants.{Sub}
-use Rattle.frame.specs.Header.{headerAt, subAt}
-use Rattle.frame.specs.Opening.{endOf, opening}
-use Rattle.frame.proofs.HeaderInverse.{ends-within, sub-at-tells}
-use Rattle.frame.proofs.OpeningTurns.{Ahead, opens-ahead}
+use Rattle.frame.specs.declared.header.Header.{Header}
+use Rattle.frame.specs.declared.header.Header.the-variants.{Sub, Bad, Past}
+use Rattle.frame.specs.declared.opening.Checked.{Checked}
+use Rattle.frame.specs.Header.{headerAt}
+use Rattle.frame.specs.Opening.{mostSubFrames, Opening, stopped, before, endOf, endOfHeader, fieldFits, onwards, scan, scanned, opening, checked}
+use Rattle.frame.proofs.HeaderCases.{refused-numbered}
+use Rattle.frame.proofs.HeaderInverse.{ends-within}
+use Rattle.frame.proofs.OpeningTurns.{Ahead, opens-ahead, sound-is, refused-is, number-is, fits-scans, unfit-number}
+use Rattle.voice.specs.declared.voice.VoiceRead.{VoiceRead}
+use Rattle.voice.specs.declared.voice.VoiceRead.the-variants.{Voice, BadVoice}
+use Rattle.voice.specs.Voice.{readRefusals, voiceRead}
+use Rattle.voice.proofs.Order.{by-number}
 use Rattle.record.specs.declared.syntax.Record.{Record}
 use Rattle.record.specs.declared.table.Found.{Found}
 use Rattle.record.specs.declared.table.Found.the-variants.{Provisioned, Unprovisioned}
 use Rattle.record.specs.Record.{foundAt}
 use Rattle.payload.specs.declared.layout.Family.{Family}
 use Rattle.payload.specs.declared.layout.Family.the-variants.{VoiceFamily, DataFamily, FaxFamily}
-use Rattle.payload.specs.Layout.{familyOf}
-use Rattle.payload.specs.Content.{payloadRead, numberOf}
+use Rattle.payload.specs.Layout.{familyOf, onVoice}
+use Rattle.payload.specs.Content.{ofVoice, numberOf}
 use Rattle.card.specs.declared.handing.Handed.{Handed}
 use Rattle.card.specs.declared.handing.Handed.the-variants.{FromFrame, FromSilence, NotHanded}
 use Rattle.card.specs.Handing.{part, serves, firstOf, onFamily, onChannel, afterOpening, handed, octetsOf, placeOf, fromFrame, fromSilence, sourceOf}
+use Rattle.card.specs.Private.{ownFirst, firstIn, behind}
 
 -- the part of s from a place to an end
 abbrev pub between : List ℕ → ℕ → ℕ → List ℕ
@@ -32,6 +45,22 @@ between s start end = take (end - start) (drop start s)
 
 pub cut : (s : List ℕ) (start len : ℕ) → between s start (start + len) ≡ part s start len
 cut s start len = let n : start + len - start ≡ len = omega arith in ap (λ (m : ℕ). take m (drop start s)) n
+
+-- a refused voice payload has a number
+abbrev Refused : VoiceRead → Type 0
+Refused (Voice sequence coding front) = Unit
+Refused (BadVoice number) = number ≡ sound → ⊥
+
+numbered : (r : Record) (p : List ℕ) (number : ℕ) → voiceRead r p ≡ BadVoice number → number ≡ sound → ⊥
+unfolding voiceRead
+numbered r p number e = subst Refused (sym (by-number BadVoice _ (readRefusals r p) (tt, (tt, (tt, (tt, (tt, (tt, tt))))))) ∙ e) (each _ _ refl tt)
+  where
+    n : ℕ
+    n = inOrder (readRefusals r p) (λ x. x) sound
+
+    each : (v : VoiceRead) (b : Bool) → eqb n 0 ≡ b → Refused v → Refused (cond b v (BadVoice n))
+    each v true h p = p
+    each v false h p = λ z. true-not-false (sym (eq-eqb n 0 z) ∙ h)
 
 -- the three tests of a sub-frame
 module _ (found : Found) (cid : ℕ) (s : List ℕ) (sub : SubFrame) where
@@ -44,81 +73,134 @@ module _ (found : Found) (cid : ℕ) (s : List ℕ) (sub : SubFrame) where
     unfolding serves
     other-type h = simp (eq-eqb (sub .cid) cid here, ne-eqb (sub .ptype) 0 h)
 
-    pub passes : sub .ptype ≡ 0 → (number : ℕ) → number ≡ numberOf (payloadRead found 0 (between s (sub .start) (endOf sub))) → eqb number sound ≡ serves found cid s sub
-    unfolding serves
-    passes type-0 number told =
-        let is = told ∙ ap (λ (p : List ℕ). numberOf (payloadRead found 0 p)) (cut s (sub .start) (sub .len)) in
-        simp (eq-eqb (sub .cid) cid here, eq-eqb (sub .ptype) 0 type-0, ← is)
+    module _ (type-0 : sub .ptype ≡ 0) (r : Record) (is : found ≡ Provisioned r) (family : familyOf (r .syntax) ≡ VoiceFamily) where
+      -- a type 0 payload of a voice sub-channel is read as voice
+      by-voice :
+          (told : VoiceRead)
+          → told ≡ voiceRead r (between s (sub .start) (endOf sub))
+          → serves found cid s sub ≡ eqb (numberOf (ofVoice (part s (sub .start) (sub .len)) told)) sound
+      unfolding serves onVoice
+      by-voice told e =
+          simp (eq-eqb (sub .cid) cid here, eq-eqb (sub .ptype) 0 type-0, is, family, e, cut s (sub .start) (sub .len))
 
--- The walk: what is still to come decides, and lies within the frame.
-pub record Left (found : Found) (cid : ℕ) (s : List ℕ) (at left : ℕ) : Type 0 where
-  pub rest : List SubFrame
-  pub many : length rest ≡ left
-  pub next : Ahead s at rest
-  pub decides : firstOf found cid s (opening s .subs) ≡ firstOf found cid s rest
+      pub passes :
+          (sequence : VoiceCount) (coding front : ℕ)
+          → Voice sequence coding front ≡ voiceRead r (between s (sub .start) (endOf sub))
+          → true ≡ serves found cid s sub
+      passes sequence coding front e = sym (by-voice (Voice sequence coding front) e)
 
-pub begins : (found : Found) (cid : ℕ) (s : List ℕ) (count : ℕ) → count ≡ length (opening s .subs) → Left found cid s 0 count
-begins found cid s count is = record { rest = opening s .subs; many = sym is; next = opens-ahead s; decides = refl }
+      pub fails : (number : ℕ) → BadVoice number ≡ voiceRead r (between s (sub .start) (endOf sub)) → false ≡ serves found cid s sub
+      fails number e = sym (by-voice (BadVoice number) e ∙ ne-eqb number sound (numbered r (between s (sub .start) (endOf sub)) number (sym e)))
 
--- the next sub-frame, and what is left behind it
-pub record Met (found : Found) (cid : ℕ) (s : List ℕ) (at left : ℕ) (sub : SubFrame) : Type 0 where
-  pub rest : List SubFrame
-  pub many : length rest ≡ left - 1
-  pub told : headerAt s at ≡ Sub sub
-  pub next : Ahead s (endOf sub) rest
-  pub decides : firstOf found cid s (opening s .subs) ≡ firstOf found cid s (sub ∷ rest)
+-- the frame's own number, or what a sound frame gives
+module _ (o : Opening) (h : Handed) where
+  pub own-sound : o .number ≡ sound → h ≡ ownFirst o h
+  own-sound e = simp (eq-eqb (o .number) sound e)
 
-met-in : (found : Found) (cid : ℕ) (s : List ℕ) (at left : ℕ) (sub : SubFrame) → sub ≡ subAt s at → 0 < left
-    → (rest : List SubFrame) → length rest ≡ left → Ahead s at rest → firstOf found cid s (opening s .subs) ≡ firstOf found cid s rest
-    → Met found cid s at left sub
-met-in found cid s at left sub is some [] many next decides = absurd (omega (arith, many))
-met-in found cid s at left sub is some (x ∷ rest) many next decides =
-    let same : x ≡ sub = sym (sub-at-tells s at x (next .0)) ∙ sym is in
-    record {
-      rest = rest;
-      many = omega (arith, many);
-      told = next .0 ∙ ap Sub same;
-      next = subst (λ (y : SubFrame). Ahead s (endOf y) rest) same (next .1);
-      decides = decides ∙ ap (λ (y : SubFrame). firstOf found cid s (y ∷ rest)) same;
-    }
+  pub own-number : (o .number ≡ sound → ⊥) → NotHanded (o .number) ≡ ownFirst o h
+  own-number some = simp (ne-eqb (o .number) sound some)
 
-module _ {found : Found} {cid : ℕ} {s : List ℕ} {at left : ℕ} (l : Left found cid s at left) where
-  pub done : left ≤ 0 → FromSilence ≡ firstOf found cid s (opening s .subs)
+-- a payload that serves, by what stands behind it
+module _ (sub : SubFrame) (rest : Opening) where
+  pub behind-last : sub .last ≡ true → FromFrame (sub .start) (sub .len) ≡ behind sub (cond (sub .last) (stopped sound (endOf sub)) rest)
+  behind-last e = rw e
+
+  module _ (r : Checked) (is : r ≡ checked rest) (e : sub .last ≡ false) where
+    pub behind-sound : r .number ≡ sound → FromFrame (sub .start) (sub .len) ≡ behind sub (cond (sub .last) (stopped sound (endOf sub)) rest)
+    behind-sound h = rw e (own-sound rest _ (sym (ap (λ (c : Checked). c .number) is) ∙ h))
+
+    pub behind-number : (r .number ≡ sound → ⊥) → NotHanded (r .number) ≡ behind sub (cond (sub .last) (stopped sound (endOf sub)) rest)
+    behind-number some =
+        let same = ap (λ (c : Checked). c .number) is in
+        rw e (ap NotHanded same ∙ own-number rest _ (λ z. some (same ∙ z)))
+
+-- The walk over the headers: when `begun` sub-frames have begun, none of which serves, what is still to come decides.
+pub record Passed (found : Found) (cid : ℕ) (s : List ℕ) (at begun : ℕ) : Type 0 where
+  pub decides : firstIn found cid s (scan (mostSubFrames - begun) s at) ≡ firstIn found cid s (scan mostSubFrames s 0)
+
+module _ (found : Found) (cid : ℕ) (s : List ℕ) where
+  stops : (o : Opening) → (o .number ≡ sound → ⊥) → NotHanded (o .number) ≡ firstIn found cid s o
+  stops o some = own-number o (firstOf found cid s (o .subs)) some
+
+  -- a scan that begins with a sub-frame
+  meets : (sub : SubFrame) (o : Opening) (b : Bool) → serves found cid s sub ≡ b → firstIn found cid s (before sub o) ≡ cond b (behind sub o) (firstIn found cid s o)
   unfolding firstOf
-  done none = sym (l .decides ∙ empty (l .rest) (omega (arith, l .many)))
-    where
-      empty : (rest : List SubFrame) → length rest ≤ 0 → firstOf found cid s rest ≡ FromSilence
-      empty [] h = refl
-      empty (x ∷ rest) h = absurd (omega arith)
+  meets sub o true h = rw h
+  meets sub o false h = rw h
 
-  module _ (some : 0 < left) (sub : SubFrame) (is : sub ≡ subAt s at) where
-    pub met : Met found cid s at left sub
-    met = met-in found cid s at left sub is some (l .rest) (l .many) (l .next) (l .decides)
+  pub begins : Passed found cid s 0 0
+  begins = record { decides = refl }
 
-    pub within : endOf sub ≤ length s
-    within = ends-within s at sub (met .told)
+  module _ {at begun : ℕ} (passed : Passed found cid s at begun) where
+    pub full : mostSubFrames ≤ begun → NotHanded tooManySubFrames ≡ firstIn found cid s (scan mostSubFrames s 0)
+    unfolding scan
+    full most = let none : mostSubFrames - begun ≡ 0 = omega arith in rw none at (passed .decides)
 
-    pub served : serves found cid s sub ≡ true → FromFrame (sub .start) (sub .len) ≡ firstOf found cid s (opening s .subs)
-    unfolding firstOf
-    served h = sym (met .decides ∙ simp h)
+    module _ (less : begun < mostSubFrames) where
+      goes :
+          (h : Header)
+          → headerAt s at ≡ h
+          → firstIn found cid s (onwards h at (scan (mostSubFrames - (begun + 1)) s (endOfHeader h))) ≡ firstIn found cid s (scan mostSubFrames s 0)
+      unfolding scan
+      goes h e =
+          let one : mostSubFrames - begun ≡ suc (mostSubFrames - (begun + 1)) = omega arith in
+          let same : onwards h at (scan (mostSubFrames - (begun + 1)) s (endOfHeader h)) ≡ scan (mostSubFrames - begun) s at = rw (one, ← e) in
+          ap (firstIn found cid s) same ∙ passed .decides
 
-    pub turn : serves found cid s sub ≡ false → Left found cid s (endOf sub) (left - 1)
-    unfolding firstOf
-    turn h = record { rest = met .rest; many = met .many; next = met .next; decides = met .decides ∙ simp h }
+      pub bad : (number : ℕ) → headerAt s at ≡ Bad number → NotHanded number ≡ firstIn found cid s (scan mostSubFrames s 0)
+      bad number e = stops (stopped number at) (refused-numbered s at number e) ∙ goes (Bad number) e
 
--- what the record of the sub-channel makes of what was found
+      pub past : headerAt s at ≡ Past → FromSilence ≡ firstIn found cid s (scan mostSubFrames s 0)
+      unfolding firstOf
+      past e = goes Past e
+
+      module _ (sub : SubFrame) (e : headerAt s at ≡ Sub sub) where
+        pub hit :
+            serves found cid s sub ≡ true
+            → behind sub (cond (sub .last) (stopped sound (endOf sub)) (scan (mostSubFrames - (begun + 1)) s (endOf sub))) ≡ firstIn found cid s (scan mostSubFrames s 0)
+        hit h = sym (meets sub (cond (sub .last) (stopped sound (endOf sub)) (scan (mostSubFrames - (begun + 1)) s (endOf sub))) true h) ∙ goes (Sub sub) e
+
+        module _ (h : serves found cid s sub ≡ false) where
+          rest : firstIn found cid s (cond (sub .last) (stopped sound (endOf sub)) (scan (mostSubFrames - (begun + 1)) s (endOf sub))) ≡ firstIn found cid s (scan mostSubFrames s 0)
+          rest = sym (meets sub (cond (sub .last) (stopped sound (endOf sub)) (scan (mostSubFrames - (begun + 1)) s (endOf sub))) false h) ∙ goes (Sub sub) e
+
+          pub none : sub .last ≡ true → FromSilence ≡ firstIn found cid s (scan mostSubFrames s 0)
+          unfolding firstOf
+          none last = rw last at rest
+
+          pub turn : sub .last ≡ false → Passed found cid s (endOf sub) (begun + 1)
+          turn last = record { decides = rw last at rest }
+
+-- the field by its length
+module _ (found : Found) (cid : ℕ) (s : List ℕ) where
+  pub fits : fieldFits (length s) ≡ true → firstIn found cid s (scan mostSubFrames s 0) ≡ firstIn found cid s (opening s)
+  unfolding firstOf
+  fits e =
+      ap (firstIn found cid s) (sym (fits-scans s e))
+      ∙ ⊎-elim (λ h. ap (firstIn found cid s) (sym (sound-is s h)))
+      (λ h.
+      sym (own-number (scanned s) (firstOf found cid s (scanned s .subs)) h)
+      ∙ own-number (stopped (scanned s .number) (scanned s .at)) FromSilence h
+      ∙ ap (firstIn found cid s) (sym (refused-is s h)))
+      (eq-or-ne (scanned s .number) sound)
+
+  pub unfit : (number : ℕ) → number ≡ opening s .number → fieldFits (length s) ≡ false → NotHanded number ≡ firstIn found cid s (opening s)
+  unfit number is e =
+      ap NotHanded is
+      ∙ own-number (opening s) (firstOf found cid s (opening s .subs)) (λ z. unfit-number s e (sym (number-is s) ∙ z))
+
+-- the record of the sub-channel decides what a sound frame gives
 pub by-family : {found : Found} {f g : Family} (r : Record) (h : Handed) → found ≡ Provisioned r → f ≡ familyOf (r .syntax) → f ≡ g → onFamily g h ≡ onChannel found h
 by-family r h e is same = ap (λ (x : Family). onFamily x h) (sym same ∙ is) ∙ ap (λ (x : Found). onChannel x h) (sym e)
 
--- what is handed, by the frame's number and then by the record
 module _ (s table : List ℕ) (cid : ℕ) where
-  pub refused : (opening s .number ≡ sound → ⊥) → NotHanded (opening s .number) ≡ handed s table cid
+  pub by-channel :
+      (found : Found) (h : Handed)
+      → found ≡ foundAt table cid
+      → h ≡ onChannel found (firstOf found cid s (opening s .subs))
+      → ownFirst (opening s) h ≡ handed s table cid
   unfolding handed afterOpening
-  refused h = simp (ne-eqb (opening s .number) sound h)
-
-  pub opened : opening s .number ≡ sound → (found : Found) → found ≡ foundAt table cid → onChannel found (firstOf found cid s (opening s .subs)) ≡ handed s table cid
-  unfolding handed afterOpening
-  opened h found is = simp (eq-eqb (opening s .number) sound h, ← is)
+  by-channel found h is e = rw (e, is)
 
   -- what is handed of the frame lies within it
   pub handed-within : {h : Handed} (start len : ℕ) → h ≡ handed s table cid → h ≡ FromFrame start len → start + len ≤ length s

@@ -1,13 +1,23 @@
 // What the voice card is handed for a call (document 01, "Frame and sub-frame", its last paragraph).
+use frame::header::Header;
 use frame::header::SubFrame;
 use payload::layout::Family;
+use record::syntax::Record;
 use record::table::Found;
+use voice::voice::VoiceRead;
 ghost use mathlib.Core.Path.{_≡_};
-ghost use Prim.Native.Nat.{_≤_};
+ghost use mathlib.Core.Bool.{cond};
+ghost use Prim.Native.Nat.{_-_, _≤_};
 ghost use lib.ListN.{length};
 ghost use denote.Ref.{ptr};
-ghost use Rattle.frame.specs.Opening.{endOf, opening};
-ghost use Rattle.card.specs.Handing.{serves, firstOf, handed, octetsOf, placeOf, sourceOf};
+ghost use Rattle.refusal.specs.Numbers.{sound};
+ghost use Rattle.frame.specs.Opening.{mostSubFrames, endOf, stopped, scan, opening};
+ghost use Rattle.record.specs.declared.table.Found.the-variants.{Provisioned};
+ghost use Rattle.payload.specs.declared.layout.Family.the-variants.{VoiceFamily};
+ghost use Rattle.payload.specs.Layout.{familyOf};
+ghost use Rattle.card.specs.declared.handing.Handed.the-variants.{NotHanded};
+ghost use Rattle.card.specs.Handing.{serves, handed, octetsOf, placeOf, sourceOf};
+ghost use Rattle.card.specs.Private.{ownFirst, firstIn, behind};
 
 // What `source` holds: 0 for a part of the frame, 255 for the silence block (no refusal has it), else the refusal number.
 pub const FROM_FRAME: u8 = refusal::SOUND;
@@ -21,10 +31,11 @@ pub enum Handed {
     NotHanded(u8),
 }
 
-// Whether a sub-frame is a type 0 payload on the sub-channel that passes its checks.
-fn serves(frame: &[u8], found: Found, cid: u8, sub: SubFrame) -> bool
+// Whether a sub-frame is a type 0 payload on the sub-channel, whose voice record this is, that passes its checks.
+fn serves(frame: &[u8], rec: Record, cid: u8, sub: SubFrame) -> bool
     requires { ⌜ endOf sub ≤ length (now frame) ⌝ }
-    ensures { λ r. ⌜ r ≡ serves found cid (now (frame .entry)) sub ⌝ }
+    requires { ⌜ familyOf (rec .syntax) ≡ VoiceFamily ⌝ }
+    ensures { λ r. ⌜ r ≡ serves (Provisioned rec) cid (now (frame .entry)) sub ⌝ }
 {
     if sub.cid != cid {
         return false;
@@ -34,47 +45,94 @@ fn serves(frame: &[u8], found: Found, cid: u8, sub: SubFrame) -> bool
     }
     let start = sub.start;
     let end = start + sub.len;
-    payload::check::check_payload(found, 0, &frame[start..end]) == refusal::SOUND
+    match voice::voice::read_voice(rec, &frame[start..end]) {
+        VoiceRead::Voice { .. } => true,
+        VoiceRead::BadVoice(_) => false,
+    }
 }
 
-// The first such payload of a frame of so many sub-frames or, where there is none, silence.
-fn first_of(frame: &[u8], found: Found, cid: u8, count: usize) -> Handed
-    requires { ⌜ count ≡ length (opening (now frame) .subs) ⌝ }
-    ensures { λ r. ⌜ r ≡ firstOf found cid (now (frame .entry)) (opening (now (frame .entry)) .subs) ⌝ }
+// A payload that serves, the last of `begun` sub-frames: it is handed where the headers behind it are sound too.
+fn behind(frame: &[u8], sub: SubFrame, begun: usize) -> Handed
+    requires { ⌜ endOf sub ≤ length (now frame) ⌝ }
+    ensures { λ r. ⌜ r ≡ behind sub (cond (sub .last) (stopped sound (endOf sub)) (scan (mostSubFrames - begun) (now (frame .entry)) (endOf sub))) ⌝ }
+{
+    let start = sub.start;
+    let len = sub.len;
+    if sub.last {
+        return Handed::FromFrame { start, len };
+    }
+    let rest = frame::opening::scan_from(frame, start + len, begun);
+    if rest.number == refusal::SOUND {
+        return Handed::FromFrame { start, len };
+    }
+    Handed::NotHanded(rest.number)
+}
+
+// The first payload of a frame that serves or, where there is none, silence; a refusal of its headers comes first.
+fn first_of(frame: &[u8], rec: Record, cid: u8) -> Handed
+    requires { ⌜ familyOf (rec .syntax) ≡ VoiceFamily ⌝ }
+    ensures { λ r. ⌜ r ≡ firstIn (Provisioned rec) cid (now (frame .entry)) (scan mostSubFrames (now (frame .entry)) 0) ⌝ }
 {
     let mut at: usize = 0;
-    let mut left = count;
-    while 0 < left {
-        let sub = frame::header::sub_at(frame, at);
-        if serves(frame, found, cid, sub) {
-            return Handed::FromFrame {
-                start: sub.start,
-                len: sub.len,
-            };
+    let mut begun: usize = 0;
+    while begun < frame::opening::MOST_SUB_FRAMES {
+        match frame::header::header_at(frame, at) {
+            Header::Sub(sub) => {
+                begun += 1;
+                if serves(frame, rec, cid, sub) {
+                    return behind(frame, sub, begun);
+                }
+                if sub.last {
+                    return Handed::FromSilence;
+                }
+                at = sub.start + sub.len;
+            }
+            Header::Bad(number) => {
+                return Handed::NotHanded(number);
+            }
+            Header::Past => {
+                return Handed::FromSilence;
+            }
         }
-        at = sub.start + sub.len;
-        left -= 1;
     }
-    Handed::FromSilence
+    Handed::NotHanded(refusal::TOO_MANY_SUB_FRAMES)
+}
+
+// What is handed of a frame on a sub-channel with this voice record.
+fn on_voice(frame: &[u8], rec: Record, cid: u8) -> Handed
+    requires { ⌜ familyOf (rec .syntax) ≡ VoiceFamily ⌝ }
+    ensures { λ r. ⌜ r ≡ firstIn (Provisioned rec) cid (now (frame .entry)) (opening (now (frame .entry))) ⌝ }
+{
+    if frame::opening::field_fits(frame) {
+        return first_of(frame, rec, cid);
+    }
+    let checked = frame::opening::check(frame);
+    Handed::NotHanded(checked.number)
+}
+
+// Of a sub-channel without a voice record: the frame's own number, or this one.
+fn refused(frame: &[u8], number: u8) -> Handed
+    ensures { λ r. ⌜ r ≡ ownFirst (opening (now (frame .entry))) (NotHanded number) ⌝ }
+{
+    let checked = frame::opening::check(frame);
+    if checked.number == refusal::SOUND {
+        return Handed::NotHanded(number);
+    }
+    Handed::NotHanded(checked.number)
 }
 
 // What is handed for a call on a sub-channel, from this frame.
 pub fn find(frame: &[u8], table: &[u16; 256], cid: u8) -> Handed
     ensures { λ r. ⌜ r ≡ handed (now (frame .entry)) (now (table .entry)) cid ⌝ }
 {
-    let checked = frame::opening::check(frame);
-    if checked.number != refusal::SOUND {
-        return Handed::NotHanded(checked.number);
-    }
-    let found = record::table::record_of(table, cid);
-    match found {
-        Found::Unprovisioned => Handed::NotHanded(refusal::NOT_PROVISIONED),
+    match record::table::record_of(table, cid) {
+        Found::Unprovisioned => refused(frame, refusal::NOT_PROVISIONED),
         Found::Provisioned(rec) => {
             let syntax = rec.syntax;
             match payload::layout::family_of(syntax) {
-                Family::VoiceFamily => first_of(frame, found, cid, checked.count),
-                Family::DataFamily => Handed::NotHanded(refusal::TYPE_NOT_ALLOWED),
-                Family::FaxFamily => Handed::NotHanded(refusal::TYPE_NOT_ALLOWED),
+                Family::VoiceFamily => on_voice(frame, rec, cid),
+                Family::DataFamily => refused(frame, refusal::TYPE_NOT_ALLOWED),
+                Family::FaxFamily => refused(frame, refusal::TYPE_NOT_ALLOWED),
             }
         }
     }

@@ -6,18 +6,18 @@ use mathlib.Core.Bool.{Bool, true, false, cond}
 use mathlib.Core.Logic.{⊎-elim}
 use native.Mathlib.Nat.{add-zero}
 use native.Mathlib.Omega.{arith}
-use borrow.Author.Tests.{lt-ltb, le-ltb, eq-eqb, ne-eqb}
+use borrow.Author.Tests.{lt-ltb, le-ltb, le-leb, lt-leb, eq-eqb, ne-eqb}
 use lib.ListN.{length, length-append}
 use lib.Seq.{append-snoc}
 use Rattle.octets.proofs.Order.{lt-or-le, eq-or-ne}
+use Rattle.octets.proofs.Texts.{true-not-false}
 use Rattle.refusal.specs.Numbers.{sound, fieldEmpty, fieldTooLong, tooManySubFrames}
-use Rattle.refusal.specs.Order.{inOrder}
 use Rattle.frame.specs.declared.header.SubFrame.{SubFrame}
 use Rattle.frame.specs.declared.header.Header.{Header}
 use Rattle.frame.specs.declared.header.Header.the-variants.{Sub, Bad, Past}
 use Rattle.frame.specs.declared.opening.Checked.{Checked}
 use Rattle.frame.specs.Header.{headerAt}
-use Rattle.frame.specs.Opening.{mostOctets, mostSubFrames, Opening, stopped, before, endOf, endOfHeader, onwards, scan, ofField, scanned, opening, checked}
+use Rattle.frame.specs.Opening.{mostOctets, mostSubFrames, fieldFits, Opening, stopped, before, endOf, endOfHeader, onwards, scan, scanned, opening, checked}
 
 empty-not : fieldEmpty ≡ sound → ⊥
 empty-not e = omega arith
@@ -39,30 +39,28 @@ module _ (s : List ℕ) where
     unfolding scanned
     scans h = simp (ne-eqb (length s) 0 some, le-ltb mostOctets (length s) h)
 
-  -- the number that the length of the field gives, and the scan by it
-  pub number-empty : length s ≡ 0 → inOrder (ofField (length s)) (λ n. n) sound ≡ fieldEmpty
-  number-empty none = simp (eq-eqb (length s) 0 none)
-
-  module _ (some : length s ≡ 0 → ⊥) where
-    pub number-long : mostOctets < length s → inOrder (ofField (length s)) (λ n. n) sound ≡ fieldTooLong
-    number-long h = simp (ne-eqb (length s) 0 some, lt-ltb mostOctets (length s) h)
-
-    pub number-fits : length s ≤ mostOctets → inOrder (ofField (length s)) (λ n. n) sound ≡ sound
-    number-fits h = simp (ne-eqb (length s) 0 some, le-ltb mostOctets (length s) h)
-
-  pub field-refused : (number : ℕ) → number ≡ inOrder (ofField (length s)) (λ n. n) sound → (number ≡ sound → ⊥) → scanned s ≡ stopped number 0
-  field-refused number is some =
-      ⊎-elim (λ none. empty none ∙ ap (λ (n : ℕ). stopped n 0) (sym (is ∙ number-empty none)))
-      (λ any.
-      ⊎-elim (λ h. long any h ∙ ap (λ (n : ℕ). stopped n 0) (sym (is ∙ number-long any h))) (λ h. absurd (some (is ∙ number-fits any h)))
+  -- what the length of the field decides
+  pub fits-scans : fieldFits (length s) ≡ true → scanned s ≡ scan mostSubFrames s 0
+  fits-scans fits =
+      ⊎-elim (λ none. absurd (true-not-false (sym fits ∙ simp (le-ltb 0 (length s) (omega (arith, none))))))
+      (λ some.
+      ⊎-elim (λ h. absurd (true-not-false (sym fits ∙ simp (lt-ltb 0 (length s) (omega (arith, some)), lt-leb (length s) mostOctets h))))
+      (scans some)
       (lt-or-le mostOctets (length s)))
       (eq-or-ne (length s) 0)
 
-  pub field-sound : inOrder (ofField (length s)) (λ n. n) sound ≡ sound → scanned s ≡ scan mostSubFrames s 0
-  field-sound is =
-      ⊎-elim (λ none. absurd (empty-not (sym (number-empty none) ∙ is)))
-      (λ any. ⊎-elim (λ h. absurd (long-not (sym (number-long any h) ∙ is))) (λ h. scans any h) (lt-or-le mostOctets (length s)))
-      (eq-or-ne (length s) 0)
+  module _ (unfit : fieldFits (length s) ≡ false) where
+    pub unfit-long : (length s ≡ 0 → ⊥) → mostOctets < length s
+    unfit-long some =
+        ⊎-elim (λ h. h)
+        (λ h. absurd (true-not-false (sym (simp (lt-ltb 0 (length s) (omega (arith, some)), le-leb (length s) mostOctets h)) ∙ unfit)))
+        (lt-or-le mostOctets (length s))
+
+    pub unfit-number : scanned s .number ≡ sound → ⊥
+    unfit-number =
+        ⊎-elim (λ none z. empty-not (sym (ap (λ (o : Opening). o .number) (empty none)) ∙ z))
+        (λ some z. long-not (sym (ap (λ (o : Opening). o .number) (long some (unfit-long some))) ∙ z))
+        (eq-or-ne (length s) 0)
 
   -- all of a sound scan is handed out, and no sub-frame of any other
   pub sound-is : scanned s .number ≡ sound → opening s ≡ scanned s

@@ -2,11 +2,11 @@
 -- holding 1 to 64 sub-frames. "Order: 1, 2, then per sub-frame 8, 3, 4, 5, 6, 7."
 use Prim.Native.Nat.{ℕ, zero, suc, _+_, _-_}
 use mathlib.Core.List.{List, [], _∷_, _++_}
-use mathlib.Core.Bool.{cond}
-use lib.Dec.{ltb, eqb}
+use mathlib.Core.Bool.{Bool, cond, _&&_}
+use lib.Dec.{ltb, leb, eqb}
 use lib.ListN.{length, replicate}
 use Rattle.refusal.specs.Numbers.{sound, fieldEmpty, fieldTooLong, tooManySubFrames}
-use Rattle.refusal.specs.Order.{Test, _gives_, inOrder}
+use Rattle.refusal.specs.Order.{_gives_, inOrder}
 use Rattle.frame.specs.declared.header.SubFrame.{SubFrame}
 use Rattle.frame.specs.declared.header.Header.{Header}
 use Rattle.frame.specs.declared.header.Header.the-variants.{Sub, Bad, Past}
@@ -20,6 +20,10 @@ mostOctets = 1600
 
 abbrev pub mostSubFrames : ℕ
 mostSubFrames = 64
+
+-- a field of n octets that neither 1 nor 2 refuses
+abbrev pub fieldFits : ℕ → Bool
+fieldFits n = ltb 0 n && leb n mostOctets
 
 -- What a scan of the headers tells: the refusal number and the place of the offending sub-frame's first octet (0 for 1 and 2),
 -- or 0 and the end of the field; and the sub-frames before that place, in order.
@@ -55,13 +59,12 @@ unfoldable pub scan : ℕ → List ℕ → ℕ → Opening
 scan zero s at = stopped tooManySubFrames at
 scan (suc room) s at = onwards (headerAt s at) at (scan room s (endOfHeader (headerAt s at)))
 
--- a field of n octets: 1, then 2
-abbrev pub ofField : ℕ → List Test
-ofField n = eqb n 0 gives fieldEmpty ∷ ltb mostOctets n gives fieldTooLong ∷ []
-
 -- the whole field: 1, then 2, then the sub-frames
 unfoldable pub scanned : List ℕ → Opening
-scanned s = inOrder (ofField (length s)) (λ number. stopped number 0) (scan mostSubFrames s 0)
+scanned s =
+    inOrder (eqb (length s) 0 gives fieldEmpty ∷ ltb mostOctets (length s) gives fieldTooLong ∷ [])
+    (λ number. stopped number 0)
+    (scan mostSubFrames s 0)
 
 -- "1 to 8 refuse the whole frame: number, offset .., no sub-frame."
 abbrev pub allOrNone : Opening → Opening

@@ -5,9 +5,7 @@ use crate::header::SubFrame;
 ghost use mathlib.Core.Path.{_≡_};
 ghost use Prim.Native.Nat.{_-_};
 ghost use lib.ListN.{length};
-ghost use Rattle.refusal.specs.Numbers.{sound};
-ghost use Rattle.refusal.specs.Order.{inOrder};
-ghost use Rattle.frame.specs.Opening.{mostSubFrames, scan, ofField, stopped, checked, opening, answer};
+ghost use Rattle.frame.specs.Opening.{mostSubFrames, fieldFits, scan, stopped, checked, opening, answer};
 
 // The largest frame, in octets and in sub-frames (house).
 pub const MOST_OCTETS: usize = 1600;
@@ -72,17 +70,14 @@ pub fn scan_from(frame: &[u8], from: usize, before: usize) -> Checked
     }
 }
 
-// 1, 2: the refusal of the field by its length, 0 where its headers decide.
-pub fn field_refusal(frame: &[u8]) -> u8
-    ensures { λ r. ⌜ r ≡ inOrder (ofField (length (now (frame .entry)))) (λ n. n) sound ⌝ }
+// Whether a field has 1 to 1,600 octets, so that neither 1 nor 2 refuses it.
+pub fn field_fits(frame: &[u8]) -> bool
+    ensures { λ r. ⌜ r ≡ fieldFits (length (now (frame .entry))) ⌝ }
 {
     if frame.len() == 0 {
-        return refusal::FIELD_EMPTY;
+        return false;
     }
-    if MOST_OCTETS < frame.len() {
-        return refusal::FIELD_TOO_LONG;
-    }
-    refusal::SOUND
+    frame.len() <= MOST_OCTETS
 }
 
 // Checks all headers of a frame, for a caller that wants no list of its sub-frames.
@@ -91,15 +86,17 @@ pub fn check(frame: &[u8]) -> Checked
     ensures at { λ r. ⌜ r .at ≡ opening (now (frame .entry)) .at ⌝ }
     ensures count { λ r. ⌜ r .count ≡ length (opening (now (frame .entry)) .subs) ⌝ }
 {
-    let number = field_refusal(frame);
-    if number != refusal::SOUND {
-        return refused(number, 0);
+    if field_fits(frame) {
+        let found = scan_from(frame, 0, 0);
+        if found.number == refusal::SOUND {
+            return found;
+        }
+        return refused(found.number, found.at);
     }
-    let found = scan_from(frame, 0, 0);
-    if found.number == refusal::SOUND {
-        return found;
+    if frame.len() == 0 {
+        return refused(refusal::FIELD_EMPTY, 0);
     }
-    refused(found.number, found.at)
+    refused(refusal::FIELD_TOO_LONG, 0)
 }
 
 // A refused frame: no sub-frame is counted.

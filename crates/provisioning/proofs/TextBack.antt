@@ -167,7 +167,7 @@ absent (e ∷ es) last d j r h =
     simp (ne-eqb j (e .cid) ne) (absent es (e .cid) d j (r .2) (omega arith))
 
 zero-means : meaning 0 ≡ Unprovisioned
-zero-means = packing.none-at-zero
+zero-means = packing.none-at-zero 0 (omega arith)
 
 -- the text of the CIDs after `last`, where the table holds these entries there
 from-back :

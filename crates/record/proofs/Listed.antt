@@ -4,14 +4,13 @@ use mathlib.Core.Path.{_≡_, refl, sym, _∙_}
 use mathlib.Core.Bool.{Bool, true, false, _&&_}
 use mathlib.Core.Logic.{⊎-elim}
 use native.Mathlib.Omega.{arith}
-use borrow.Author.Tests.{le-leb, lt-leb, ne-eqb}
+use borrow.Author.Tests.{le-leb, lt-leb}
 use lib.Dec.{T, eqb}
 use Rattle.octets.proofs.Order.{eq-or-ne}
 use Rattle.octets.proofs.Texts.{true-not-false}
 use Rattle.record.specs.declared.syntax.Syntax.{Syntax}
 use Rattle.record.specs.declared.syntax.Syntax.the-variants.{Acelp, Pcm, G727, G728, G7231, Data, Fax}
-use Rattle.record.specs.Record.{mostM, mListed, seqListed, legal, withPair, place, syntaxAt}
-use Rattle.record.specs.Private.{listedAt}
+use Rattle.record.specs.Record.{mostM, mListed, seqListed, legal, withPair}
 
 -- one test over all numbers below n
 abbrev same : Bool → Bool → Bool
@@ -52,7 +51,7 @@ low x n =
     let q : n % 32 % 2 ≡ n % 2 = omega arith in
     rw (p, q)
 
-masked :
+pub masked :
     (x : Syntax) (mask : ℕ)
     → T (every 32 (λ k. same (bit mask k) (legal (withPair x k))))
     → (n : ℕ) → bit mask (n % 32) ≡ legal (withPair x n)
@@ -60,30 +59,6 @@ masked x mask t n =
     is-same (bit mask (n % 32)) (legal (withPair x (n % 32)))
     (each 32 (λ k. same (bit mask k) (legal (withPair x k))) t (n % 32) (omega arith))
     ∙ low x n
-
--- the syntax at its place
-pub at-place : (x : Syntax) (n : ℕ) → listedAt (place x) n ≡ legal (withPair x n)
-unfolding listedAt syntaxAt
-at-place Acelp n = refl
-at-place Pcm n = refl
-at-place G727 n = refl
-at-place G728 n = refl
-at-place G7231 n = refl
-at-place Data n = refl
-at-place Fax n = refl
-
-pub masks :
-    (x : Syntax) (mask : ℕ)
-    → T (every 32 (λ k. same (bit mask k) (legal (withPair x k))))
-    → (n : ℕ) → bit mask (n % 32) ≡ listedAt (place x) n
-masks x mask t n = masked x mask t n ∙ sym (at-place x n)
-
--- no syntax has a place that is none of the seven
-pub at-none : (at : ℕ) → (place (syntaxAt at) ≡ at → ⊥) → (n : ℕ) → bit 0 (n % 32) ≡ listedAt at n
-unfolding listedAt
-at-none at apart n =
-    is-same (bit 0 (n % 32)) false (each 32 (λ k. same (bit 0 k) false) tt (n % 32) (omega arith))
-    ∙ simp (ne-eqb (place (syntaxAt at)) at apart)
 
 -- m with seq 0, and with seq 1
 module _ (x : Syntax) (m : ℕ) (fits : m ≤ 15) where

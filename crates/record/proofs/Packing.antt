@@ -15,7 +15,6 @@ use Rattle.record.specs.declared.syntax.Syntax.the-variants.{Acelp, Pcm,
 use Rattle.record.specs.declared.syntax.Record.{Record}
 use Rattle.record.specs.declared.table.Found.the-variants.{Provisioned, Unprovisioned}
 use Rattle.record.specs.Record.{mostM, mListed, seqListed, legal, place, syntaxAt, packed, withPair, unpacked, meaning, foundAt}
-use Rattle.record.specs.Private.{listedAt}
 use Rattle.record.proofs.Listed.{most-small, both}
 
 pub place-range : (x : Syntax) → (1 ≤ place x) × (place x ≤ 7)
@@ -45,23 +44,47 @@ place-back G7231 = refl
 place-back Data = refl
 place-back Fax = refl
 
--- a number is that of the record which it could be exactly where a syntax has the place above bit 5
-packs : (n : ℕ) → eqb (packed (unpacked n)) n ≡ eqb (place (syntaxAt (n / 32))) (n / 32)
-unfolding packed
-packs n =
-    let low : cond (eqb (n % 2) 1) 1 0 ≡ n % 2 = low-bit (n % 2) (omega arith) in
-    rw low
-    (⊎-elim (λ e. simp (eq-eqb (place (syntaxAt (n / 32))) (n / 32) e) (eq-eqb _ n (omega arith)))
-    (λ ne. simp (ne-eqb (place (syntaxAt (n / 32))) (n / 32) ne) (ne-eqb _ n (λ e. ne (omega arith))))
-    (eq-or-ne (place (syntaxAt (n / 32))) (n / 32)))
+place-forth : (at : ℕ) → (at ≡ 0 → ⊥) → at ≤ 7 → place (syntaxAt at) ≡ at
+unfolding syntaxAt
+place-forth zero some most = absurd (some refl)
+place-forth (suc zero) some most = refl
+place-forth (suc (suc zero)) some most = refl
+place-forth (suc (suc (suc zero))) some most = refl
+place-forth (suc (suc (suc (suc zero)))) some most = refl
+place-forth (suc (suc (suc (suc (suc zero))))) some most = refl
+place-forth (suc (suc (suc (suc (suc (suc zero)))))) some most = refl
+place-forth (suc (suc (suc (suc (suc (suc (suc zero))))))) some most = refl
+place-forth (suc (suc (suc (suc (suc (suc (suc (suc at)))))))) some most = absurd (omega arith)
 
-pub by-place : (n : ℕ) (b : Bool) → listedAt (n / 32) n ≡ b → meaning n ≡ cond b (Provisioned (unpacked n)) Unprovisioned
-unfolding meaning listedAt
-by-place n b h = rw (packs n, h)
+module _ (n : ℕ) where
+  unlike : (packed (unpacked n) ≡ n → ⊥) → meaning n ≡ Unprovisioned
+  unfolding meaning
+  unlike h = simp (ne-eqb (packed (unpacked n)) n h)
 
-pub none-at-zero : meaning 0 ≡ Unprovisioned
-unfolding meaning packed syntaxAt
-none-at-zero = refl
+  pub none-at-zero : n < 32 → meaning n ≡ Unprovisioned
+  unfolding packed
+  none-at-zero h = unlike (λ e. omega (arith, place-range (syntaxAt (n / 32))))
+
+  pub none-beyond : 255 < n → meaning n ≡ Unprovisioned
+  unfolding packed
+  none-beyond h =
+      unlike (λ e. omega (arith, place-range (syntaxAt (n / 32)), bit-small (eqb (n % 2) 1)))
+
+  module _ (some : 32 ≤ n) (listed : n ≤ 255) where
+    packs : packed (unpacked n) ≡ n
+    unfolding packed
+    packs =
+        let high : place (syntaxAt (n / 32)) ≡ n / 32 = place-forth (n / 32) (λ z. omega arith) (omega arith) in
+        let low : cond (eqb (n % 2) 1) 1 0 ≡ n % 2 = low-bit (n % 2) (omega arith) in
+        rw (high, low) (omega arith)
+
+    pub by-pair :
+        (x : Syntax) (b : Bool)
+        → x ≡ syntaxAt (n / 32)
+        → legal (withPair x n) ≡ b
+        → meaning n ≡ cond b (Provisioned (withPair x n)) Unprovisioned
+    unfolding meaning
+    by-pair x b is h = rw (← is) (simp (eq-eqb (packed (withPair x n)) n (rw (← is) at packs), h))
 
 -- a legal record comes back from its number
 pub m-small : (r : Record) → legal r ≡ true → r .m ≤ 12

@@ -3,7 +3,6 @@ ghost use mathlib.Core.Path.{_≡_};
 ghost use Prim.Native.Nat.{ℕ, _/_, _%_, _^_};
 ghost use lib.Dec.{eqb};
 ghost use Rattle.record.specs.Record.{mListed, seqListed, legal, withPair, place, syntaxAt};
-ghost use Rattle.record.specs.Private.{listedAt};
 
 pub enum Syntax {
     Acelp,
@@ -21,40 +20,31 @@ pub struct Record {
     pub seq: bool,
 }
 
-// The m and seq that the syntax at a place may have, as a mask: bit 2 × m + seq + 1, counted from 1, is set where they are listed.
-// None is where no syntax has this place.
-fn pairs_at(at: u16) -> u32
-    ensures { λ r. ⌜ ((n : ℕ) → eqb (r / 2 ^ (n % 32) % 2) 1 ≡ listedAt at n) ⌝ }
+// The m and seq that a syntax may have, as a mask: bit 2 × m + seq + 1, counted from 1, is set where they are listed.
+fn pairs(syntax: Syntax) -> u32
+    ensures { λ r. ⌜ ((n : ℕ) → eqb (r / 2 ^ (n % 32) % 2) 1 ≡ legal (withPair syntax n)) ⌝ }
 {
-    match at {
-        // acelp: m 1 to 6, seq 0 or 1
-        1 => 0x3ffc,
-        // pcm, g727: m 1 to 12, seq 1
-        2 => 0x2aaaaa8,
-        3 => 0x2aaaaa8,
-        // g728: m 1 to 12, seq 0 or 1
-        4 => 0x3fffffc,
-        // g7231: m 1, seq 0 or 1
-        5 => 0xc,
-        // data, fax: m 1, seq 0
-        6 => 0x4,
-        7 => 0x4,
-        _ => 0,
+    match syntax {
+        // m 1 to 6, seq 0 or 1
+        Syntax::Acelp => 0x3ffc,
+        // m 1 to 12, seq 1
+        Syntax::Pcm => 0x2aaaaa8,
+        Syntax::G727 => 0x2aaaaa8,
+        // m 1 to 12, seq 0 or 1
+        Syntax::G728 => 0x3fffffc,
+        // m 1, seq 0 or 1
+        Syntax::G7231 => 0xc,
+        // m 1, seq 0
+        Syntax::Data => 0x4,
+        Syntax::Fax => 0x4,
     }
 }
 
-// Whether a syntax stands at a place and may have the m and seq that a number packs in its low five bits.
-pub(crate) fn listed_at(at: u16, number: u16) -> bool
-    ensures { λ r. ⌜ r ≡ listedAt at number ⌝ }
-{
-    (pairs_at(at) >> (number % 32)) % 2 == 1
-}
-
 // Whether a syntax may have the m and seq that a number packs in its low five bits.
-fn pair_listed(syntax: Syntax, number: u16) -> bool
+pub(crate) fn pair_listed(syntax: Syntax, number: u16) -> bool
     ensures { λ r. ⌜ r ≡ legal (withPair syntax number) ⌝ }
 {
-    listed_at(place_of(syntax), number)
+    (pairs(syntax) >> (number % 32)) % 2 == 1
 }
 
 // Whether a syntax may have this m, with one seq or the other.
@@ -106,6 +96,7 @@ pub fn syntax_at(at: u16) -> Syntax
         4 => Syntax::G728,
         5 => Syntax::G7231,
         6 => Syntax::Data,
+        7 => Syntax::Fax,
         _ => Syntax::Fax,
     }
 }

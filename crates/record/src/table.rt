@@ -29,9 +29,15 @@ pub fn pack(given: Record) -> u16
 pub(crate) fn meaning(number: u16) -> Found
     ensures { λ r. ⌜ r ≡ meaning number ⌝ }
 {
-    let at = number / 32;
-    if crate::syntax::listed_at(at, number) {
-        let syntax = crate::syntax::syntax_at(at);
+    // No syntax has the place 0, or one above 7.
+    if number < 32 {
+        return Found::Unprovisioned;
+    }
+    if 255 < number {
+        return Found::Unprovisioned;
+    }
+    let syntax = crate::syntax::syntax_at(number / 32);
+    if crate::syntax::pair_listed(syntax, number) {
         let m = (number / 2 % 16) as u8;
         let seq = number % 2 == 1;
         return Found::Provisioned(Record { syntax, m, seq });

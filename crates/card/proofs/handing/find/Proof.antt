@@ -1,22 +1,12 @@
--- `card::handing::find` meets its contract: the frame's number, then 11 and 12, then the walk.
+-- `card::handing::find` meets its contract: the record of the sub-channel decides what a sound frame gives.
 use mathlib.Core.Path.{sym, ap, _∙_}
-use Rattle.frame.specs.Opening.{opening}
+use borrow.Author.Needs.{needs}
 use Rattle.record.specs.declared.table.Found.{Found}
-use Rattle.card.specs.declared.handing.Handed.the-variants.{NotHanded}
+use Rattle.frame.specs.Opening.{opening}
 use Rattle.card.specs.Handing.{firstOf, onChannel}
 use Rattle.card.proofs.HandingCases as cases
-use borrow.Author.Needs.{needs}
 use Rattle.card.proofs.handing.find.Statement.{statement}
 use Rattle.card.proofs.handing.find.Tie as tie
-
-check-requires : tie.Need-check-requires
-check-requires c κs = search needs
-
-returns : tie.Need-returns
-returns c =
-    let a = c .before .before .before .before .args in
-    let is = c .before .before .check .ensures .0 in
-    ap NotHanded is ∙ cases.refused (a .frame .now) (a .table .now) (a .cid) (λ z. c .if1 .taken (is ∙ z))
 
 record-of-requires : tie.Need-record-of-requires
 record-of-requires c κs = search needs
@@ -24,8 +14,11 @@ record-of-requires c κs = search needs
 enum-told : tie.Need-enum-told
 enum-told c = search needs
 
-enum-known-found : tie.Need-enum-known-found
-enum-known-found c = search needs
+refused-requires : tie.Need-refused-requires
+refused-requires c κs = search needs
+
+enum-known-rec : tie.Need-enum-known-rec
+enum-known-rec c = search needs
 
 family-of-requires : tie.Need-family-of-requires
 family-of-requires c κs = search needs
@@ -33,60 +26,74 @@ family-of-requires c κs = search needs
 enum-told-2 : tie.Need-enum-told-2
 enum-told-2 c = search needs
 
-first-of-requires : tie.Need-first-of-requires
-first-of-requires c κs = search needs
+on-voice-requires : tie.Need-on-voice-requires
+on-voice-requires c κs = sym (c .before .before .family-of .ensures) ∙ c .enum-told2 .given .1
 
 enum-told-3 : tie.Need-enum-told-3
 enum-told-3 c = search needs
 
+refused-requires-2 : tie.Need-refused-requires-2
+refused-requires-2 c κs = search needs
+
 enum-told-4 : tie.Need-enum-told-4
 enum-told-4 c = search needs
 
+refused-requires-3 : tie.Need-refused-requires-3
+refused-requires-3 c κs = search needs
+
+returns : tie.Need-returns
+returns c =
+    let a = c .before .before .before .before .before .args in
+    let found = c .before .before .before .record-of in
+    let nothing = ap (λ (x : Found). onChannel x (firstOf (found .result) (a .cid) (a .frame .now) (opening (a .frame .now) .subs))) (sym (c .before .enum-told .given .1)) in
+    c .refused .ensures ∙ cases.by-channel (a .frame .now) (a .table .now) (a .cid) (found .result) _ (found .ensures) nothing
+
 returns-2 : tie.Need-returns-2
 returns-2 c =
-    let a = c .before .before .before .before .before .before .before .args in
-    let found = c .before .before .record-of in
-    ap (λ (x : Found). onChannel x (firstOf (found .result) (a .cid) (a .frame .now) (opening (a .frame .now) .subs))) (sym (c .enum-told .given .1))
-    ∙ cases.opened (a .frame .now) (a .table .now) (a .cid) (sym (c .before .before .before .before .before .check .ensures .0) ∙ c .before .before .before .if1 .left) (found .result) (found .ensures)
+    let a = c .before .before .before .before .before .before .before .before .before .args in
+    let found = c .before .before .before .before .before .before .before .record-of in
+    let rec = c .before .before .before .before .before .rec .given in
+    let first = firstOf (found .result) (a .cid) (a .frame .now) (opening (a .frame .now) .subs) in
+    c .on-voice .ensures
+    ∙ cases.by-channel (a .frame .now) (a .table .now) (a .cid) (found .result) _ (found .ensures)
+    (ap (λ (x : Found). firstOf x (a .cid) (a .frame .now) (opening (a .frame .now) .subs)) (sym (rec .1)) ∙ cases.by-family _ first (rec .1) (c .before .before .before .family-of .ensures) (c .before .enum-told2 .given .1))
 
 returns-3 : tie.Need-returns-3
 returns-3 c =
-    let a = c .before .before .before .before .before .before .before .before .before .before .before .before .args in
+    let a = c .before .before .before .before .before .before .before .before .before .args in
     let found = c .before .before .before .before .before .before .before .record-of in
-    c .first-of .ensures
-    ∙ ap (λ (x : Found). firstOf x (a .cid) (a .frame .now) (opening (a .frame .now) .subs)) (sym (c .before .before .before .before .before .found .given .1))
-    ∙ cases.by-family _ (firstOf (found .result) (a .cid) (a .frame .now) (opening (a .frame .now) .subs)) (c .before .before .before .before .before .found .given .1) (c .before .before .before .family-of .ensures) (c .before .enum-told2 .given .1)
-    ∙ cases.opened (a .frame .now) (a .table .now) (a .cid) (sym (c .before .before .before .before .before .before .before .before .before .before .check .ensures .0) ∙ c .before .before .before .before .before .before .before .before .if1 .left) (found .result) (found .ensures)
+    let rec = c .before .before .before .before .before .rec .given in
+    let first = firstOf (found .result) (a .cid) (a .frame .now) (opening (a .frame .now) .subs) in
+    c .refused2 .ensures
+    ∙ cases.by-channel (a .frame .now) (a .table .now) (a .cid) (found .result) _ (found .ensures)
+    (cases.by-family _ first (rec .1) (c .before .before .before .family-of .ensures) (c .before .enum-told3 .given .1))
 
 returns-4 : tie.Need-returns-4
 returns-4 c =
-    let a = c .before .before .before .before .before .before .before .before .before .before .before .args in
-    let found = c .before .before .before .before .before .before .record-of in
-    cases.by-family _ (firstOf (found .result) (a .cid) (a .frame .now) (opening (a .frame .now) .subs)) (c .before .before .before .before .found .given .1) (c .before .before .family-of .ensures) (c .enum-told3 .given .1)
-    ∙ cases.opened (a .frame .now) (a .table .now) (a .cid) (sym (c .before .before .before .before .before .before .before .before .before .check .ensures .0) ∙ c .before .before .before .before .before .before .before .if1 .left) (found .result) (found .ensures)
-
-returns-5 : tie.Need-returns-5
-returns-5 c =
-    let a = c .before .before .before .before .before .before .before .before .before .before .before .args in
-    let found = c .before .before .before .before .before .before .record-of in
-    cases.by-family _ (firstOf (found .result) (a .cid) (a .frame .now) (opening (a .frame .now) .subs)) (c .before .before .before .before .found .given .1) (c .before .before .family-of .ensures) (c .enum-told4 .given .1)
-    ∙ cases.opened (a .frame .now) (a .table .now) (a .cid) (sym (c .before .before .before .before .before .before .before .before .before .check .ensures .0) ∙ c .before .before .before .before .before .before .before .if1 .left) (found .result) (found .ensures)
+    let a = c .before .before .before .before .before .before .before .before .before .args in
+    let found = c .before .before .before .before .before .before .before .record-of in
+    let rec = c .before .before .before .before .before .rec .given in
+    let first = firstOf (found .result) (a .cid) (a .frame .now) (opening (a .frame .now) .subs) in
+    c .refused3 .ensures
+    ∙ cases.by-channel (a .frame .now) (a .table .now) (a .cid) (found .result) _ (found .ensures)
+    (cases.by-family _ first (rec .1) (c .before .before .before .family-of .ensures) (c .before .enum-told4 .given .1))
 
 pub find-spec : {M : Type 1} → statement M
 find-spec =
     tie.close
     (tie.spec
-    check-requires
-    returns
     record-of-requires
     enum-told
-    enum-known-found
+    refused-requires
+    enum-known-rec
     family-of-requires
     enum-told-2
-    first-of-requires
+    on-voice-requires
     enum-told-3
+    refused-requires-2
     enum-told-4
+    refused-requires-3
+    returns
     returns-2
     returns-3
-    returns-4
-    returns-5)
+    returns-4)
