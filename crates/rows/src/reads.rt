@@ -58,11 +58,11 @@ fn read(acc: u64, frame: &[u8], table: &[u16; 256]) -> u64 {
 fn read_sub(acc: u64, frame: &[u8], table: &[u16; 256], sub: SubFrame) -> u64
     requires { ⌜ endOf sub ≤ length (now frame) ⌝ }
 {
-    let found = record::table::record_of(table, sub.cid);
+    let at = octet(octet(acc, sub.cid), sub.ptype);
     let start = sub.start;
     let end = start + sub.len;
     let payload = &frame[start..end];
-    let at = octet(octet(acc, sub.cid), sub.ptype);
+    let found = record::table::record_of(table, sub.cid);
     match payload::layout::layout_of(found, sub.ptype) {
         Layout::OfVoice(rec) => read_voice(at, rec, payload),
         Layout::OfDigits => read_digits(at, payload),
