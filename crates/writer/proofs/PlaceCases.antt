@@ -9,7 +9,6 @@ use lib.Dec.{ltb}
 use Rattle.refusal.specs.Numbers.{roomTooSmall, tooLongNotLast, frameFull}
 use Rattle.refusal.specs.Order.{Test, _gives_}
 use Rattle.octets.proofs.Order.{clash}
-use Rattle.record.specs.declared.syntax.Record.{Record}
 use Rattle.frame.specs.Opening.{mostOctets, mostSubFrames}
 use Rattle.frame.specs.Joining.{headerSize}
 use Rattle.writer.specs.declared.place.Writer.{Writer}
@@ -36,25 +35,25 @@ within w end e =
     (ltb-false mostSubFrames (w .count + 1) (pass .0 .0), ltb-false mostOctets end (pass .1))
 
 -- 22, 23, 21, with a header of so many octets
-module _ (room : ℕ) (w : Writer) (last : Bool) (cid : ℕ) (r : Record) (ptype len : ℕ) where
-  pub long : tooLong last len ≡ true → NoPlace tooLongNotLast ≡ placed room w last cid r ptype len
+module _ (room : ℕ) (w : Writer) (last : Bool) (cid ptype len : ℕ) where
+  pub long : tooLong last len ≡ true → NoPlace tooLongNotLast ≡ placed room w last cid ptype len
   unfolding placed
   long h = simp h
 
   module _ (short : tooLong last len ≡ false) {header : ℕ} (is : header ≡ headerSize cid ptype last) where
-    pub passes : full w (w .at + header + len) ≡ true → NoPlace frameFull ≡ placed room w last cid r ptype len
+    pub passes : full w (w .at + header + len) ≡ true → NoPlace frameFull ≡ placed room w last cid ptype len
     unfolding placed
     passes h = simp (short, rw is at h)
 
     module _ (fits : full w (w .at + header + len) ≡ false) where
-      pub small : room < w .at + header + len → NoPlace roomTooSmall ≡ placed room w last cid r ptype len
+      pub small : room < w .at + header + len → NoPlace roomTooSmall ≡ placed room w last cid ptype len
       unfolding placed
       small h = simp (short, rw is at fits, lt-ltb room (w .at + headerSize cid ptype last + len) (rw is at h))
 
       pub has-place :
           w .at + header + len ≤ room
-          → Place r (w .at + header) (record { at = w .at + header + len; count = w .count + 1; done = last })
-          ≡ placed room w last cid r ptype len
+          → Place (w .at + header) len (record { at = w .at + header + len; count = w .count + 1; done = last })
+          ≡ placed room w last cid ptype len
       unfolding placed
       has-place h = rw is (simp (short, rw is at fits, le-ltb room (w .at + headerSize cid ptype last + len) (rw is at h)))
 
@@ -67,29 +66,29 @@ pub record Placed (room : ℕ) (w : Writer) (last : Bool) (cid ptype len start :
   pub within : start + len ≤ mostOctets
   pub few : w .count + 1 ≤ mostSubFrames
 
-pub never : {A : Type 0} (number : ℕ) (r : Record) (start : ℕ) (next : Writer) → NoPlace number ≡ Place r start next → A
-never number r start next e = let z : _≡_ {A = ℕ} 0 1 = cc in absurd (omega arith)
+pub never : {A : Type 0} (number start len : ℕ) (next : Writer) → NoPlace number ≡ Place start len next → A
+never number start len next e = let z : _≡_ {A = ℕ} 0 1 = cc in absurd (omega arith)
 
-pub same-place : (r s : Record) (a b : ℕ) (v w : Writer) → Place r a v ≡ Place s b w → (r ≡ s) × (a ≡ b) × (v ≡ w)
-same-place r s a b v w e = (cc, cc, cc)
+same-place : (a b m n : ℕ) (v w : Writer) → Place a m v ≡ Place b n w → (a ≡ b) × (m ≡ n) × (v ≡ w)
+same-place a b m n v w e = (cc, cc, cc)
 
-pub placed-back : (room : ℕ) (w : Writer) (last : Bool) (cid : ℕ) (r : Record) (ptype len : ℕ) (s : Record) (start : ℕ) (next : Writer)
-    → placed room w last cid r ptype len ≡ Place s start next
-    → (r ≡ s) × Placed room w last cid ptype len start next
+pub placed-back : (room : ℕ) (w : Writer) (last : Bool) (cid ptype len start many : ℕ) (next : Writer)
+    → placed room w last cid ptype len ≡ Place start many next
+    → (len ≡ many) × Placed room w last cid ptype len start next
 unfolding placed
-placed-back room w last cid r ptype len s start next is =
+placed-back room w last cid ptype len start many next is =
     let begins : ℕ = w .at + headerSize cid ptype last in
     let tests : List Test = tooLong last len gives tooLongNotLast ∷ full w (begins + len) gives frameFull ∷ ltb room (begins + len) gives roomTooSmall ∷ [] in
-    let pass = passed tests NoPlace (Place r begins (record { at = begins + len; count = w .count + 1; done = last })) (Place s start next) (λ n. never n s start next) is in
+    let pass = passed tests NoPlace (Place begins len (record { at = begins + len; count = w .count + 1; done = last })) (Place start many next) (λ n. never n start many next) is in
     let same = same-place _ _ _ _ _ _ (pass .1) in
     let most = within w (begins + len) (pass .0 .1 .0) in (
-      same .0,
+      same .1,
       record {
         short = pass .0 .0;
-        starts = sym (same .1);
-        goes-on = sym (same .2) ∙ ap (λ (n : ℕ). record { at = n + len; count = w .count + 1; done = last }) (same .1);
-        inside = rw (← same .1) (ltb-false room (begins + len) (pass .0 .1 .1 .0));
-        within = rw (← same .1) (most .1);
+        starts = sym (same .0);
+        goes-on = sym (same .2) ∙ ap (λ (n : ℕ). record { at = n + len; count = w .count + 1; done = last }) (same .0);
+        inside = rw (← same .0) (ltb-false room (begins + len) (pass .0 .1 .1 .0));
+        within = rw (← same .0) (most .1);
         few = most .0;
       },
     )

@@ -18,12 +18,12 @@ use Rattle.payload.specs.Layout.{typeFor}
 use Rattle.payload.specs.Content.{Content, kindOf, payloadMade}
 use Rattle.writer.specs.declared.place.Writer.{Writer}
 use Rattle.writer.specs.declared.place.Channel.{Channel}
-use Rattle.writer.specs.declared.place.Channel.the-variants.{Takes}
+use Rattle.writer.specs.declared.place.Channel.the-variants.{Takes, TakesNot}
 use Rattle.writer.specs.declared.place.Entered.{Entered}
 use Rattle.writer.specs.declared.place.Entered.the-variants.{Place, NoPlace}
-use Rattle.writer.specs.Writer.{channelFor, typedOn, onChannel, tooLong, full, placed, entered, writes, refuses, subFrame, taken, writing}
+use Rattle.writer.specs.Writer.{channelFor, typedOn, onChannel, tooLong, full, placed, entered, enteredOn, writes, refuses, subFrame, taken, writing}
 use Rattle.writer.proofs.ChannelCases.{by-record, taking}
-use Rattle.writer.proofs.PlaceCases.{has-place, small}
+use Rattle.writer.proofs.PlaceCases.{has-place, small, never}
 use Rattle.writer.proofs.EnterCases.{entered-back}
 
 -- a sub-frame that is taken: all but the room
@@ -60,28 +60,27 @@ module _ (w : Writer) (last : Bool) (found : Found) (cid : ℕ) (content : Conte
       → writing room w last found cid content ≡ writes octets next
       → Took w last found cid content octets next × (next .at ≤ room)
   unfolding writing
-  took-back room is = go (entered room w last cid channel (fitOf m)) refl is
+  took-back room is = go channel refl (enteredOn room w last cid channel (fitOf m)) refl is
     where
-      go : (e : Entered) → entered room w last cid channel (fitOf m) ≡ e
-          → taken e (subFrame cid last channel m) ≡ writes octets next
+      go : (c : Channel) → channel ≡ c
+          → (e : Entered) → enteredOn room w last cid c (fitOf m) ≡ e
+          → taken e (subFrame cid last c m) ≡ writes octets next
           → Took w last found cid content octets next × (next .at ≤ room)
-      go (NoPlace n) there is = refused-not n octets next is
-      go (Place r start to) there is =
+      go c takes (NoPlace n) there is = refused-not n octets next is
+      go (TakesNot n) takes (Place start len to) there is = never n start len to there
+      go (Takes r ptype) takes (Place start len to) there is =
           let same = same-writes _ _ _ _ is in
-          let entry = entered-back room w last cid channel m r start next (there ∙ ap (Place r start) (same .1)) in
-          let known = taking w found cid (kindOf content) r (entry .ptype) (entry .takes) in
+          let entry = entered-back room w last cid ptype m start len next (there ∙ ap (Place start len) (same .1)) in
+          let known = taking w found cid (kindOf content) r ptype takes in
           let ends : next .at ≡ start + length (entry .payload) = ap (λ (v : Writer). v .at) (entry .place .goes-on) in (
             record {
-              ptype = entry .ptype;
+              ptype = ptype;
               payload = entry .payload;
               going = known .going;
               free = known .free;
               typed = known .typed;
               makes = entry .makes;
-              are =
-                  sym (same .0)
-                  ∙ ap (λ (c : Channel). subFrame cid last c m) (entry .takes)
-                  ∙ ap (subFrame cid last (Takes r (entry .ptype))) (entry .makes);
+              are = sym (same .0) ∙ ap (subFrame cid last (Takes r ptype)) (entry .makes);
               goes-on =
                   entry .place .goes-on
                   ∙ ap (λ (n : ℕ). record { at = n + length (entry .payload); count = w .count + 1; done = last }) (entry .place .starts);
@@ -114,7 +113,7 @@ module _ (w : Writer) (last : Bool) (found : Found) (cid : ℕ) (content : Conte
         go (Provisioned r) is = (r, is)
         go Unprovisioned is = untyped _ _ (sym (ap (λ (f : Found). typeFor f (kindOf content)) is) ∙ took .typed)
 
-    decides : (e : Entered) → e ≡ placed room w last cid (provisioned .0) (took .ptype) len → writing room w last found cid content ≡ taken e octets
+    decides : (e : Entered) → e ≡ placed room w last cid (took .ptype) len → writing room w last found cid content ≡ taken e octets
     unfolding writing
     decides e placing =
         let r = provisioned .0 in
@@ -124,14 +123,14 @@ module _ (w : Writer) (last : Bool) (found : Found) (cid : ℕ) (content : Conte
         ∙ ap (λ (f : Found). onChannel f (kindOf content)) is
         ∙ ap (typedOn r) (sym (ap (λ (f : Found). typeFor f (kindOf content)) is) ∙ took .typed)
         in
-        ap (λ (c : Channel). taken (entered room w last cid c (fitOf m)) (subFrame cid last c m)) takes
-        ∙ ap (λ (x : Made). taken (entered room w last cid (Takes r (took .ptype)) (fitOf x)) (subFrame cid last (Takes r (took .ptype)) x)) (took .makes)
+        ap (λ (c : Channel). taken (enteredOn room w last cid c (fitOf m)) (subFrame cid last c m)) takes
+        ∙ ap (λ (x : Made). taken (entered room w last cid (took .ptype) (fitOf x)) (subFrame cid last (Takes r (took .ptype)) x)) (took .makes)
         ∙ ap₂ taken (sym placing) (sym (took .are))
 
     pub too-small : room < next .at → writing room w last found cid content ≡ refuses roomTooSmall
-    too-small h = decides _ (small room w last cid _ (took .ptype) len (took .short) refl not-full (rw ends at h))
+    too-small h = decides _ (small room w last cid (took .ptype) len (took .short) refl not-full (rw ends at h))
 
     pub large-enough : next .at ≤ room → writing room w last found cid content ≡ writes octets next
     large-enough h =
-        decides _ (has-place room w last cid _ (took .ptype) len (took .short) refl not-full (rw ends at h))
+        decides _ (has-place room w last cid (took .ptype) len (took .short) refl not-full (rw ends at h))
         ∙ ap (writes octets) (sym (took .goes-on))

@@ -61,8 +61,8 @@ abbrev pub full : Writer → ℕ → Bool
 full w end = ltb mostSubFrames (w .count + 1) or ltb mostOctets end
 
 -- 22, 23, 21, for a payload of len octets: where it begins, behind its header, and the writer after it
-unfoldable pub placed : ℕ → Writer → Bool → ℕ → Record → ℕ → ℕ → Entered
-placed room w last cid r ptype len =
+unfoldable pub placed : ℕ → Writer → Bool → ℕ → ℕ → ℕ → Entered
+placed room w last cid ptype len =
     let start = w .at + headerSize cid ptype last in
     let end = start + len in
     inOrder
@@ -71,13 +71,17 @@ placed room w last cid r ptype len =
     ∷ ltb room end gives roomTooSmall
     ∷ [])
     NoPlace
-    (Place r start (record { at = end; count = w .count + 1; done = last }))
+    (Place start len (record { at = end; count = w .count + 1; done = last }))
 
--- The order: by the sub-channel; 13 to 16 by the payload's layout; by the place.
-abbrev pub entered : ℕ → Writer → Bool → ℕ → Channel → Fit → Entered
-entered room w last cid (TakesNot number) fit = NoPlace number
-entered room w last cid (Takes r ptype) (Unfit number) = NoPlace number
-entered room w last cid (Takes r ptype) (Octets len) = placed room w last cid r ptype len
+-- 13 to 16 by the payload's layout; then by the place
+abbrev pub entered : ℕ → Writer → Bool → ℕ → ℕ → Fit → Entered
+entered room w last cid ptype (Unfit number) = NoPlace number
+entered room w last cid ptype (Octets len) = placed room w last cid ptype len
+
+-- The order: by the sub-channel, then those.
+abbrev pub enteredOn : ℕ → Writer → Bool → ℕ → Channel → Fit → Entered
+enteredOn room w last cid (TakesNot number) fit = NoPlace number
+enteredOn room w last cid (Takes r ptype) fit = entered room w last cid ptype fit
 
 -- What the writer does with a sub-frame: it takes it, as these octets, and goes on; or it refuses it.
 pub data Writing : Type 0 where
@@ -91,7 +95,7 @@ subFrame cid last (Takes r ptype) (unmade number) = []
 subFrame cid last (TakesNot number) m = []
 
 abbrev pub taken : Entered → List ℕ → Writing
-taken (Place r start next) octets = writes octets next
+taken (Place start len next) octets = writes octets next
 taken (NoPlace number) octets = refuses number
 
 -- A content for a sub-channel of this CID, with what is provisioned there, in a lent frame of `room` octets.
@@ -99,7 +103,7 @@ unfoldable pub writing : ℕ → Writer → Bool → Found → ℕ → Content �
 writing room w last found cid content =
     let channel = channelFor w found cid (kindOf content) in
     let m = payloadMade found content in
-    taken (entered room w last cid channel (fitOf m)) (subFrame cid last channel m)
+    taken (enteredOn room w last cid channel (fitOf m)) (subFrame cid last channel m)
 
 -- The lent frame then: "all lent memory and state stand as at entry" where it is refused.
 abbrev pub leftWriting : Writing → List ℕ → ℕ → List ℕ

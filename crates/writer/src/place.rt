@@ -1,18 +1,17 @@
 // Where the writer stands, and what it tests before a sub-frame's payload (document 01, "Refusal numbers": "Its order: 24, 4,
 // 11 to 16, 22, 23, 21").
 use octets::Fit;
+use octets::Put;
 use payload::layout::Kind;
 use payload::layout::TypeFor;
 use record::syntax::Record;
 use record::table::Found;
 ghost use mathlib.Core.Path.{_≡_};
-ghost use Prim.Native.Nat.{ℕ, _+_, _-_};
+ghost use Prim.Native.Nat.{_+_, _-_, _%_};
 ghost use lib.ListN.{length};
-ghost use Rattle.octets.specs.Room.{written};
+ghost use Rattle.octets.specs.Room.{leftBy};
 ghost use Rattle.record.specs.Record.{foundAt};
-ghost use Rattle.frame.specs.Joining.{shortestHeader};
-ghost use Rattle.writer.specs.declared.place.Channel.the-variants.{Takes};
-ghost use Rattle.writer.specs.declared.place.Entered.the-variants.{Place, NoPlace};
+ghost use Rattle.frame.specs.Joining.{shortestHeader, headerPut};
 ghost use Rattle.writer.specs.Writer.{freshWriter, channelFor, tooLong, full, placed, entered};
 
 // The largest payload that is not last, by its length octet.
@@ -27,7 +26,7 @@ pub struct Writer {
 }
 
 // What a sub-channel takes a content as.
-enum Channel {
+pub(crate) enum Channel {
     // Its record, and the content's payload type there.
     Takes { rec: Record, ptype: u8 },
     // The refusal number: 24, 4, 11 or 12.
@@ -36,13 +35,13 @@ enum Channel {
 
 // Whether a sub-frame has its place.
 pub(crate) enum Entered {
-    // The sub-channel's record, where the payload begins, and the writer after it.
+    // Where the payload begins, its octets, and the writer after it.
     Place {
-        rec: Record,
         start: usize,
+        len: usize,
         next: Writer,
     },
-    // The refusal number.
+    // The refusal number: the payload's own, 22, 23 or 21.
     NoPlace(u8),
 }
 
@@ -58,7 +57,7 @@ pub fn fresh() -> Writer
 }
 
 // 24, 4, 11, 12: what the sub-channel takes a content of this kind as.
-fn channel_for(writer: Writer, table: &[u16; 256], cid: u8, kind: Kind) -> Channel
+pub(crate) fn channel_for(writer: Writer, table: &[u16; 256], cid: u8, kind: Kind) -> Channel
     ensures { λ r. ⌜ r ≡ channelFor writer (foundAt (now (table .entry)) cid) cid kind ⌝ }
 {
     if writer.done {
@@ -101,16 +100,8 @@ fn full(writer: Writer, header: usize, len: usize) -> bool
 }
 
 // 22, 23, 21: where a payload of so many octets begins, behind its header, and the writer after it.
-fn place(
-    room: usize,
-    writer: Writer,
-    last: bool,
-    cid: u8,
-    rec: Record,
-    ptype: u8,
-    len: usize,
-) -> Entered
-    ensures { λ r. ⌜ r ≡ placed room writer last cid rec ptype len ⌝ }
+fn place(room: usize, writer: Writer, last: bool, cid: u8, ptype: u8, len: usize) -> Entered
+    ensures { λ r. ⌜ r ≡ placed room writer last cid ptype len ⌝ }
 {
     if too_long(last, len) {
         return Entered::NoPlace(refusal::TOO_LONG_NOT_LAST);
@@ -129,42 +120,37 @@ fn place(
         count: writer.count + 1,
         done: last,
     };
-    Entered::Place { rec, start, next }
+    Entered::Place { start, len, next }
 }
 
-// Enters a sub-frame: 24, 4, 11 to 16, 22, 23, 21 for a content of this kind that fits so. Where it has its place, its header is
-// written, and the payload is to follow.
+// 13 to 16 for a content that fits so, then 22, 23, 21: whether it has its place.
 pub(crate) fn enter(
+    room: usize,
+    writer: Writer,
+    last: bool,
+    cid: u8,
+    ptype: u8,
+    fit: Fit,
+) -> Entered
+    ensures { λ r. ⌜ r ≡ entered room writer last cid ptype fit ⌝ }
+{
+    match fit {
+        Fit::Unfit(number) => Entered::NoPlace(number),
+        Fit::Octets(len) => place(room, writer, last, cid, ptype, len),
+    }
+}
+
+// Writes the header before a payload of so many octets.
+pub(crate) fn lead(
     frame: &mut [u8],
     writer: Writer,
     last: bool,
-    table: &[u16; 256],
     cid: u8,
-    kind: Kind,
-    fit: Fit,
-) -> Entered
-    ensures answer { λ r. ⌜ r ≡ entered (length (now (frame .entry))) writer last cid (channelFor writer (foundAt (now (table .entry)) cid) cid kind) fit ⌝ }
-    ensures headed { λ r. ⌜ ((rec : Record) (ptype start : ℕ) (next : Writer) → channelFor writer (foundAt (now (table .entry)) cid) cid kind ≡ Takes rec ptype → r ≡ Place rec start next → now (frame .exit) ≡ written (now (frame .entry)) (writer .at) (shortestHeader cid ptype last (next .at - start))) ⌝ }
-    ensures kept { λ r. ⌜ ((number : ℕ) → r ≡ NoPlace number → now (frame .exit) ≡ now (frame .entry)) ⌝ }
+    ptype: u8,
+    len: usize,
+) -> Put
+    ensures answer { λ r. ⌜ r ≡ headerPut (length (now (frame .entry)) - writer .at) (writer .at) cid ptype last ⌝ }
+    ensures holds { λ r. ⌜ now (frame .exit) ≡ leftBy r (now (frame .entry)) (writer .at) (shortestHeader cid ptype last (len % 256)) ⌝ }
 {
-    match channel_for(writer, table, cid, kind) {
-        Channel::TakesNot(number) => Entered::NoPlace(number),
-        Channel::Takes { rec, ptype } => match fit {
-            Fit::Unfit(number) => Entered::NoPlace(number),
-            Fit::Octets(len) => match place(frame.len(), writer, last, cid, rec, ptype, len) {
-                Entered::NoPlace(number) => Entered::NoPlace(number),
-                Entered::Place { rec, start, next } => {
-                    frame::joining::put_header(
-                        frame,
-                        writer.at,
-                        cid,
-                        ptype,
-                        last,
-                        (len % 256) as u8,
-                    );
-                    Entered::Place { rec, start, next }
-                }
-            },
-        },
-    }
+    frame::joining::put_header(frame, writer.at, cid, ptype, last, (len % 256) as u8)
 }

@@ -1,20 +1,17 @@
 // Sub-frames of digits, signalling, fax and silence, written (document 01, "Refusal numbers" and "Payload types").
+use crate::place::Channel;
 use crate::place::Entered;
 use crate::place::Writer;
 use digits::layout::Digits;
 use fax::Command;
 use fax::Stamp;
-use octets::Fit;
 use payload::layout::Kind;
-use record::table::Found;
 use signalling::layout::Signalling;
 use voice::sid::Sid;
 ghost use mathlib.Core.Path.{_≡_};
 ghost use lib.ListN.{length};
 ghost use Rattle.record.specs.Record.{foundAt};
-ghost use Rattle.octets.specs.Made.{fitOf};
-ghost use Rattle.payload.specs.declared.layout.TypeFor.the-variants.{Typed};
-ghost use Rattle.payload.specs.Content.{dialled, seized, faxed, silent, madeAs};
+ghost use Rattle.payload.specs.Content.{dialled, seized, faxed, silent};
 ghost use Rattle.writer.specs.Writer.{writing, leftWriting};
 ghost use Rattle.writer.specs.Answers.{signalled};
 
@@ -38,12 +35,18 @@ pub fn write_digits(
     ensures answer { λ r. ⌜ r ≡ signalled (writing (length (now (frame .entry))) writer last (foundAt (now (table .entry)) cid) cid (dialled digits)) ⌝ }
     ensures holds { λ r. ⌜ now (frame .exit) ≡ leftWriting (writing (length (now (frame .entry))) writer last (foundAt (now (table .entry)) cid) cid (dialled digits)) (now (frame .entry)) (writer .at) ⌝ }
 {
-    let fit = digits::layout::fit_digits(digits);
-    match crate::place::enter(frame, writer, last, table, cid, Kind::ADigits, fit) {
-        Entered::NoPlace(number) => Signalled::SignalledRefused(number),
-        Entered::Place { start, next, .. } => {
-            digits::layout::put_digits(frame, start, digits);
-            Signalled::SignalledTaken(next)
+    match crate::place::channel_for(writer, table, cid, Kind::ADigits) {
+        Channel::TakesNot(number) => Signalled::SignalledRefused(number),
+        Channel::Takes { ptype, .. } => {
+            let fit = digits::layout::fit_digits(digits);
+            match crate::place::enter(frame.len(), writer, last, cid, ptype, fit) {
+                Entered::NoPlace(number) => Signalled::SignalledRefused(number),
+                Entered::Place { start, len, next } => {
+                    digits::layout::put_digits(frame, start, digits);
+                    crate::place::lead(frame, writer, last, cid, ptype, len);
+                    Signalled::SignalledTaken(next)
+                }
+            }
         }
     }
 }
@@ -60,12 +63,18 @@ pub fn write_signalling(
     ensures answer { λ r. ⌜ r ≡ signalled (writing (length (now (frame .entry))) writer last (foundAt (now (table .entry)) cid) cid (seized signalling)) ⌝ }
     ensures holds { λ r. ⌜ now (frame .exit) ≡ leftWriting (writing (length (now (frame .entry))) writer last (foundAt (now (table .entry)) cid) cid (seized signalling)) (now (frame .entry)) (writer .at) ⌝ }
 {
-    let fit = signalling::layout::fit_signalling(signalling);
-    match crate::place::enter(frame, writer, last, table, cid, Kind::ASignalling, fit) {
-        Entered::NoPlace(number) => Signalled::SignalledRefused(number),
-        Entered::Place { start, next, .. } => {
-            signalling::layout::put_signalling(frame, start, signalling);
-            Signalled::SignalledTaken(next)
+    match crate::place::channel_for(writer, table, cid, Kind::ASignalling) {
+        Channel::TakesNot(number) => Signalled::SignalledRefused(number),
+        Channel::Takes { ptype, .. } => {
+            let fit = signalling::layout::fit_signalling(signalling);
+            match crate::place::enter(frame.len(), writer, last, cid, ptype, fit) {
+                Entered::NoPlace(number) => Signalled::SignalledRefused(number),
+                Entered::Place { start, len, next } => {
+                    signalling::layout::put_signalling(frame, start, signalling);
+                    crate::place::lead(frame, writer, last, cid, ptype, len);
+                    Signalled::SignalledTaken(next)
+                }
+            }
         }
     }
 }
@@ -85,26 +94,19 @@ pub fn write_fax(
     ensures answer { λ r. ⌜ r ≡ signalled (writing (length (now (frame .entry))) writer last (foundAt (now (table .entry)) cid) cid (faxed sequence stamp command (now (body .entry)))) ⌝ }
     ensures holds { λ r. ⌜ now (frame .exit) ≡ leftWriting (writing (length (now (frame .entry))) writer last (foundAt (now (table .entry)) cid) cid (faxed sequence stamp command (now (body .entry)))) (now (frame .entry)) (writer .at) ⌝ }
 {
-    let fit = fax::fit_fax(sequence, stamp, command, body);
-    match crate::place::enter(frame, writer, last, table, cid, Kind::AFax, fit) {
-        Entered::NoPlace(number) => Signalled::SignalledRefused(number),
-        Entered::Place { start, next, .. } => {
-            fax::put_fax(frame, start, sequence, stamp, command, body);
-            Signalled::SignalledTaken(next)
+    match crate::place::channel_for(writer, table, cid, Kind::AFax) {
+        Channel::TakesNot(number) => Signalled::SignalledRefused(number),
+        Channel::Takes { ptype, .. } => {
+            let fit = fax::fit_fax(sequence, stamp, command, body);
+            match crate::place::enter(frame.len(), writer, last, cid, ptype, fit) {
+                Entered::NoPlace(number) => Signalled::SignalledRefused(number),
+                Entered::Place { start, len, next } => {
+                    fax::put_fax(frame, start, sequence, stamp, command, body);
+                    crate::place::lead(frame, writer, last, cid, ptype, len);
+                    Signalled::SignalledTaken(next)
+                }
+            }
         }
-    }
-}
-
-// How a silence fits what is provisioned on its sub-channel: 11 where nothing is.
-fn fit_on(found: Found, sid: Sid) -> Fit
-    ensures { λ r. ⌜ r ≡ fitOf (madeAs (Typed 4) found (silent sid)) ⌝ }
-{
-    match found {
-        Found::Provisioned(rec) => {
-            let syntax = rec.syntax;
-            voice::sid::fit_sid(syntax, sid)
-        }
-        Found::Unprovisioned => Fit::Unfit(refusal::NOT_PROVISIONED),
     }
 }
 
@@ -120,14 +122,19 @@ pub fn write_sid(
     ensures answer { λ r. ⌜ r ≡ signalled (writing (length (now (frame .entry))) writer last (foundAt (now (table .entry)) cid) cid (silent sid)) ⌝ }
     ensures holds { λ r. ⌜ now (frame .exit) ≡ leftWriting (writing (length (now (frame .entry))) writer last (foundAt (now (table .entry)) cid) cid (silent sid)) (now (frame .entry)) (writer .at) ⌝ }
 {
-    let found = record::table::record_of(table, cid);
-    let fit = fit_on(found, sid);
-    match crate::place::enter(frame, writer, last, table, cid, Kind::ASid, fit) {
-        Entered::NoPlace(number) => Signalled::SignalledRefused(number),
-        Entered::Place { rec, start, next } => {
+    match crate::place::channel_for(writer, table, cid, Kind::ASid) {
+        Channel::TakesNot(number) => Signalled::SignalledRefused(number),
+        Channel::Takes { rec, ptype } => {
             let syntax = rec.syntax;
-            voice::sid::put_sid(frame, start, syntax, sid);
-            Signalled::SignalledTaken(next)
+            let fit = voice::sid::fit_sid(syntax, sid);
+            match crate::place::enter(frame.len(), writer, last, cid, ptype, fit) {
+                Entered::NoPlace(number) => Signalled::SignalledRefused(number),
+                Entered::Place { start, len, next } => {
+                    voice::sid::put_sid(frame, start, syntax, sid);
+                    crate::place::lead(frame, writer, last, cid, ptype, len);
+                    Signalled::SignalledTaken(next)
+                }
+            }
         }
     }
 }

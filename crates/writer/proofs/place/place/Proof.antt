@@ -9,12 +9,12 @@ use Rattle.writer.proofs.place.place.Statement.{statement}
 use Rattle.writer.proofs.place.place.Tie as tie
 
 returns : tie.Need-returns
-returns c = cases.long _ _ _ _ _ _ _ (sym (c .before .too-long .ensures) ∙ c .if1 .taken)
+returns c = cases.long _ _ _ _ _ _ (sym (c .before .too-long .ensures) ∙ c .if1 .taken)
 
 returns-2 : tie.Need-returns-2
 returns-2 c =
     let sized = c .before .before in
-    cases.passes _ _ _ _ _ _ _ (sym (sized .before .before .too-long .ensures) ∙ sized .before .if1 .left) (sized .header-size .ensures) (sym (c .before .full .ensures) ∙ c .if2 .taken)
+    cases.passes _ _ _ _ _ _ (sym (sized .before .before .too-long .ensures) ∙ sized .before .if1 .left) (sized .header-size .ensures) (sym (c .before .full .ensures) ∙ c .if2 .taken)
 
 -- where it would end
 ends : (c : tie.After-struct-known)
@@ -26,12 +26,12 @@ ends c = cases.within (c .before .before .before .before .before .before .args .
 returns-3 : tie.Need-returns-3
 returns-3 c =
     let sized = c .before .before .before .before in
-    cases.small _ _ _ _ _ _ _ (sym (sized .before .before .too-long .ensures) ∙ sized .before .if1 .left) (sized .header-size .ensures) (sym (c .before .before .before .full .ensures) ∙ c .before .before .if2 .left) (c .if3 .taken)
+    cases.small _ _ _ _ _ _ (sym (sized .before .before .too-long .ensures) ∙ sized .before .if1 .left) (sized .header-size .ensures) (sym (c .before .before .before .full .ensures) ∙ c .before .before .if2 .left) (c .if3 .taken)
 
 returns-4 : tie.Need-returns-4
 returns-4 c =
     let sized = c .before .before .before .before .before in
-    cases.has-place _ _ _ _ _ _ _ (sym (sized .before .before .too-long .ensures) ∙ sized .before .if1 .left) (sized .header-size .ensures) (sym (c .before .before .before .before .full .ensures) ∙ c .before .before .before .if2 .left) (c .before .if3 .left)
+    cases.has-place _ _ _ _ _ _ (sym (sized .before .before .too-long .ensures) ∙ sized .before .if1 .left) (sized .header-size .ensures) (sym (c .before .before .before .before .full .ensures) ∙ c .before .before .before .if2 .left) (c .before .if3 .left)
 
 pub place-spec : {M : Type 1} → statement M
 place-spec =
