@@ -1,13 +1,8 @@
 -- Demand 3 speaks of definitions, and these are what the functions' contracts say: results that meet the contract of a function
 -- (`Post`, which the kit makes of it) are the definition's. Where a contract cited another definition, this would have no proof.
 -- Proved in proofs/Tied.antt.
-use Prim.Native.Nat.{ℕ}
-use mathlib.Core.Path.{_≡_}
-use mathlib.Core.List.{List}
-use contract.Lifetimes.{Lfts}
-use borrow.Fn.Kinds.{PK, RK, Dens, Out, resT, endedOf}
 use denote.Ref.{now}
-use denote.Triple.Clauses.{AtExit}
+use Rattle.contracts.specs.Contracts.{Answers, Leaves}
 use Rattle.octets.specs.Made.{putMade, leftMade}
 use Rattle.digits.specs.Layout.{digitsMade}
 use Rattle.signalling.specs.Layout.{signallingMade}
@@ -42,16 +37,6 @@ use Rattle.trunk.proofs.fresh.Kinds as trunk-kinds
 use Rattle.trunk.proofs.fresh.Reads as trunk-reads
 use Rattle.trunk.proofs.take.Kinds as take-kinds
 use Rattle.trunk.proofs.take.Reads as take-reads
-
--- a result that meets a contract is what `says` makes of the arguments
-abbrev pub Answers : (n : ℕ) (ps : List (PK n)) (r : RK n) → ((κs : Lfts n) → Dens κs ps → resT r κs .Denot) → Out n ps r → Type 0
-Answers n ps r says post =
-    (κs : Lfts n) (a : Dens κs ps) (x : resT r κs .Denot) (s : AtExit (endedOf n ps r) κs) → post κs a x s → x ≡ says κs a
-
--- and what a lent buffer holds then is what `leaves` makes of them
-abbrev pub Leaves : (n : ℕ) (ps : List (PK n)) (r : RK n) {H : Type 0} → ((κs : Lfts n) → AtExit (endedOf n ps r) κs → H) → ((κs : Lfts n) → Dens κs ps → H) → Out n ps r → Type 0
-Leaves n ps r lent leaves post =
-    (κs : Lfts n) (a : Dens κs ps) (x : resT r κs .Denot) (s : AtExit (endedOf n ps r) κs) → post κs a x s → lent κs s ≡ leaves κs a
 
 pub record Tied : Type 0 where
   pub digit-sender : Answers 0 digit-sender-kinds.ps digit-sender-kinds.r (λ κs a. freshSender) digit-sender-reads.Post
