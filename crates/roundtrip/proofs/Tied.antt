@@ -29,7 +29,7 @@ use Rattle.writer.specs.declared.primary.Primary.{Primary}
 use Rattle.writer.specs.declared.signalled.Signalled.{Signalled}
 use Rattle.writer.specs.Writer.{freshWriter, Writing, writes, refuses, leftWriting}
 use Rattle.writer.specs.Answers.{primary, signalled}
-use Rattle.roundtrip.specs.Demand2.{Sub, isLast, Fed, took, stopped, after, onwards, first, fed, frameOf, Got, gotOf}
+use Rattle.roundtrip.specs.Demand2.{Sub, Fed, took, stopped, after, onwards, first, fed, frameOf, Got, gotOf}
 use Rattle.roundtrip.specs.Tied.{Handed, does, leftOf, toVoice, toData, toDigits, toSignalling, toFax, toSid, Tied, Answer, takes, says, answerOf, ofPrimary, ofSignalled, Back, Call, by-voice, by-data, by-digits, by-signalling, by-fax, by-sid, Calls, all-taken, goes-on, stops, CallsAreFed, ReadBy, Gets, AllGet, CallsAreGotten, CallsReadBack}
 use Rattle.roundtrip.proofs.RoundTrip.{written-reads-back}
 use Rattle.writer.proofs.place.fresh.Kinds as fresh-kinds
