@@ -11,3 +11,4 @@ pub mod Bounds
 pub mod Trunks
 pub mod Tied
 pub mod Calls
+pub mod DigitsSent

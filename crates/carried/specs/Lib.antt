@@ -6,3 +6,4 @@ pub mod SignallingRuns
 pub mod Bounds
 pub mod Trunks
 pub mod Tied
+pub mod DigitsSent
