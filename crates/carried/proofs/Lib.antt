@@ -12,3 +12,4 @@ pub mod Trunks
 pub mod Tied
 pub mod Calls
 pub mod DigitsSent
+pub mod TrunkRuns

@@ -7,3 +7,4 @@ pub mod Bounds
 pub mod Trunks
 pub mod Tied
 pub mod DigitsSent
+pub mod TrunkRuns
