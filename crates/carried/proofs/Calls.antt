@@ -40,15 +40,16 @@ use Rattle.seizing.specs.Sender.{started, sent}
 use Rattle.seizing.specs.Receiver as seizing
 use Rattle.trunk.specs.declared.Trunk.{Trunk}
 use Rattle.trunk.specs.declared.Told.{Told}
-use Rattle.trunk.specs.Trunk.{taken}
+use Rattle.trunk.specs.Trunk.{freshTrunk, taken}
 use Rattle.replay.specs.Periods.{Mark, Sublist}
 use Rattle.carried.specs.Emissions.{Emission, octetsOf}
 use Rattle.carried.specs.Digits as digits
 use Rattle.carried.specs.Signalling as signalling
 use Rattle.carried.specs.Trunks.{Coming, came, other, toldOf, dialledMarks, digitRecord, seizedMarks, signallingRecord}
-use Rattle.carried.specs.Tied.{Puts, DigitsPut, DigitsSent, no-more-digits, digits-on, DigitsReceived, no-more-heard, receives-on, hears-on, SignallingPut, SignallingSent, no-more-samples, samples-on, SignallingReceived, no-more-come, comes-on, typeOf, octetsIn, TrunkTold, no-more-told, tells-on, digitMarks, signallingMarks, CallsAre, DigitCallsCarried, SignallingCallsCarried}
+use Rattle.carried.specs.Tied.{Puts, DigitsPut, DigitsSent, no-more-digits, digits-on, DigitsReceived, no-more-heard, receives-on, hears-on, SignallingPut, SignallingSent, no-more-samples, samples-on, SignallingReceived, no-more-come, comes-on, typeOf, octetsIn, TrunkTold, no-more-told, tells-on, digitMarks, signallingMarks, CallsAre, DigitCallsCarried, SignallingCallsCarried, FreshTrunk, TrunkDigitCallsCarried, TrunkSignallingCallsCarried}
 use Rattle.carried.proofs.Digits.{digits-carried}
 use Rattle.carried.proofs.Signalling.{signalling-carried}
+use Rattle.carried.proofs.Trunks.{trunk-digits-carried, trunk-signalling-carried}
 use Rattle.dialling.proofs.sender.fresh.Kinds as digit-sender-kinds
 use Rattle.dialling.proofs.sender.fresh.Reads as digit-sender-reads
 use Rattle.dialling.proofs.sender.send.Kinds as digit-send-kinds
@@ -71,6 +72,8 @@ use Rattle.seizing.proofs.receiver.receive.Kinds as signalling-receive-kinds
 use Rattle.seizing.proofs.receiver.receive.Reads as signalling-receive-reads
 use Rattle.signalling.proofs.layout.put_signalling.Kinds as put-signalling-kinds
 use Rattle.signalling.proofs.layout.put_signalling.Reads as put-signalling-reads
+use Rattle.trunk.proofs.fresh.Kinds as trunk-kinds
+use Rattle.trunk.proofs.fresh.Reads as trunk-reads
 use Rattle.trunk.proofs.take.Kinds as take-kinds
 use Rattle.trunk.proofs.take.Reads as take-reads
 
@@ -270,3 +273,21 @@ signalling-calls-carried start entries first second marks marks2 calls =
       near = calls .near;
       near2 = calls .near2;
     }))
+
+-- and of trunks
+fresh-trunk : (t : Trunk) → FreshTrunk t → t ≡ freshTrunk
+fresh-trunk t m = comes-of 0 trunk-kinds.ps trunk-kinds.r trunk-reads.Post _ _ (λ (i : Unit {0}). freshTrunk) (λ κs a x s p. p) (tt {0}) t m
+
+digits-told : (found : Found) (t : Trunk) (cs : List Coming) (xs : List Told) → FreshTrunk t → TrunkTold 1 found t cs xs → digitMarks xs ≡ digitRecord found freshTrunk cs
+digits-told found t cs xs fresh told = calls-are .trunk-digits found t cs xs told ∙ ap (λ (u : Trunk). digitRecord found u cs) (fresh-trunk t fresh)
+
+signalling-told : (found : Found) (t : Trunk) (cs : List Coming) (xs : List Told) → FreshTrunk t → TrunkTold 2 found t cs xs → signallingMarks xs ≡ signallingRecord found freshTrunk cs
+signalling-told found t cs xs fresh told = calls-are .trunk-signalling found t cs xs told ∙ ap (λ (u : Trunk). signallingRecord found u cs) (fresh-trunk t fresh)
+
+pub trunk-digit-calls-carried : TrunkDigitCallsCarried
+trunk-digit-calls-carried found entries first second t t2 told told2 given fresh fresh2 calls calls2 =
+    rw (digits-told found t first told fresh calls, digits-told found t2 second told2 fresh2 calls2) (trunk-digits-carried found entries first second given)
+
+pub trunk-signalling-calls-carried : TrunkSignallingCallsCarried
+trunk-signalling-calls-carried found start entries first second t t2 told told2 given fresh fresh2 calls calls2 =
+    rw (signalling-told found t first told fresh calls, signalling-told found t2 second told2 fresh2 calls2) (trunk-signalling-carried found start entries first second given)

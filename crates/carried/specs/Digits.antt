@@ -1,8 +1,8 @@
 -- Demand 3 for digits: what two fresh receivers have in their records when payloads of one sender arrive, through the octets
 -- of the payloads. Proved in proofs/Digits.antt, by the replay theorem.
 --
--- It holds of the code by the contracts, as Tied.antt says: `sending` is what `dialling::sender::send` answers, `digitsMade` is what
--- `digits::layout::put_digits` writes, `received` is what `dialling::receiver::receive` answers, `voiceHeard` is what
+-- It holds of the code by the contracts, as Tied.antt says: `sending` is what `dialling::sender::send` answers, `digitsMade` is
+-- what `digits::layout::put_digits` writes, `received` is what `dialling::receiver::receive` answers, `voiceHeard` is what
 -- `dialling::receiver::hear_voice` returns, and `freshSender` and `freshReceiver` are what the two `fresh` return.
 use Prim.Native.Nat.{ℕ, suc}
 use mathlib.Core.List.{List, [], _∷_, _++_, map}

@@ -1,6 +1,6 @@
--- Which digit periods are sent, over any run of entries and told by the entries alone (document 01, "Senders, per 20 ms"): "A period
--- is sent when it is on or changes, or is one of the three periods after such a one". Proved in proofs/DigitsSent.antt, from
--- `SentExactly` of dialling/specs/SenderClaims.antt, which tells changes by what the sender holds.
+-- Which digit periods are sent, over any run of entries and told by the entries alone (document 01, "Senders, per 20 ms"): "A
+-- period is sent when it is on or changes, or is one of the three periods after such a one". Proved in proofs/DigitsSent.antt,
+-- from `SentExactly` of dialling/specs/SenderClaims.antt, which tells changes by what the sender holds.
 use Prim.Native.Nat.{ℕ, suc}
 use mathlib.Core.Path.{_≡_}
 use mathlib.Core.List.{List, [], _∷_, map}

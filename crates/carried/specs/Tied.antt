@@ -43,7 +43,7 @@ use Rattle.replay.specs.Claims.{BothReplay}
 use Rattle.carried.specs.Emissions.{Emission}
 use Rattle.carried.specs.Digits as digits
 use Rattle.carried.specs.Signalling as signalling
-use Rattle.carried.specs.Trunks.{Coming, came, other, dialledMarks, digitRecord, seizedMarks, signallingRecord}
+use Rattle.carried.specs.Trunks.{Coming, came, other, arrivals, dialledMarks, digitRecord, seizedMarks, signallingRecord, DigitsGiven, SignallingGiven}
 use Rattle.dialling.proofs.sender.fresh.Kinds as digit-sender-kinds
 use Rattle.dialling.proofs.sender.fresh.Reads as digit-sender-reads
 use Rattle.dialling.proofs.sender.send.Kinds as digit-send-kinds
@@ -223,3 +223,27 @@ SignallingCallsCarried =
     (start : ℕ) (entries : List signalling-entry.Entry) (first second : List Emission) (marks marks2 : List (Mark (List ℕ)))
     → SignallingCalls start entries first second marks marks2
     → BothReplay (signalling.periodOf start entries) (signalling.arrivals first) marks (signalling.arrivals second) marks2
+
+-- And of two trunks, each begun with what `fresh` returns.
+abbrev pub FreshTrunk : Trunk → Type 0
+FreshTrunk t = Met 0 trunk-kinds.ps trunk-kinds.r trunk-reads.Post (λ κs a. tt {0}) (λ κs x s. x) (tt {0}) t
+
+abbrev pub TrunkDigitCallsCarried : Type 0
+TrunkDigitCallsCarried =
+    (found : Found) (entries : List digit-entry.Entry) (first second : List Coming) (t t2 : Trunk) (told told2 : List Told)
+    → DigitsGiven found entries first second
+    → FreshTrunk t
+    → FreshTrunk t2
+    → TrunkTold 1 found t first told
+    → TrunkTold 1 found t2 second told2
+    → BothReplay (digits.periodOf entries) (arrivals first) (digitMarks told) (arrivals second) (digitMarks told2)
+
+abbrev pub TrunkSignallingCallsCarried : Type 0
+TrunkSignallingCallsCarried =
+    (found : Found) (start : ℕ) (entries : List signalling-entry.Entry) (first second : List Coming) (t t2 : Trunk) (told told2 : List Told)
+    → SignallingGiven found start entries first second
+    → FreshTrunk t
+    → FreshTrunk t2
+    → TrunkTold 2 found t first told
+    → TrunkTold 2 found t2 second told2
+    → BothReplay (signalling.periodOf start entries) (arrivals first) (signallingMarks told) (arrivals second) (signallingMarks told2)

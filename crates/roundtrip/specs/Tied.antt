@@ -1,7 +1,7 @@
 -- Demand 2 speaks of definitions, and these are what the functions' contracts say: results that meet the contract of a function
--- (`Post`, which the kit makes of it) are the definition's, and results that meet the six writers' contracts, call after call, are
--- `fed`, those that meet the readers' are `gotten`. Where a contract cited another definition, this would have no proof. Proved in
--- proofs/Tied.antt.
+-- (`Post`, which the kit makes of it) are the definition's; results that meet the six writers' contracts, call after call, are
+-- `fed`, and those that meet the readers' are `gotten`. Where a contract cited another definition, this would have no proof.
+-- Proved in proofs/Tied.antt.
 use Prim.Native.Nat.{ℕ}
 use mathlib.Core.Path.{_≡_}
 use mathlib.Core.List.{List, [], _∷_, map}
