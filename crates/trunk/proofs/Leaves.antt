@@ -1,19 +1,20 @@
 -- What a payload leaves alone, and its number (specs/Claims.antt).
 use Prim.Native.Nat.{ℕ}
-use mathlib.Core.Path.{_≡_, refl, sym, ap, ap₂, _∙_}
+use mathlib.Core.Path.{_≡_, refl, sym, ap, ap₂, subst, _∙_}
 use mathlib.Core.List.{List}
 use mathlib.Core.Bool.{Bool, true, false, cond}
-use native.Mathlib.Omega.{arith}
-use borrow.Author.Tests.{eqb-true}
+use borrow.Author.Tests.{eqb-true, eqb-false}
 use lib.Dec.{eqb}
 use Rattle.refusal.specs.Numbers.{sound}
+use Rattle.record.specs.declared.syntax.Record.{Record}
 use Rattle.record.specs.declared.table.Found.{Found}
 use Rattle.voice.specs.declared.voice.VoiceRead.{VoiceRead}
 use Rattle.voice.specs.declared.voice.VoiceRead.the-variants.{Voice, BadVoice}
 use Rattle.voice.specs.declared.sid.SidRead.{SidRead}
 use Rattle.voice.specs.declared.sid.SidRead.the-variants.{Silence, BadSid}
-use Rattle.voice.specs.Voice.{voiceRead}
+use Rattle.voice.specs.Voice.{readRefusals, voiceRead}
 use Rattle.voice.specs.Sid.{sidRead}
+use Rattle.voice.proofs.Order as order
 use Rattle.data.specs.declared.DataRead.{DataRead}
 use Rattle.data.specs.declared.DataRead.the-variants.{Fragment, BadData}
 use Rattle.data.specs.Data.{dataRead}
@@ -35,19 +36,21 @@ use Rattle.payload.specs.declared.layout.Layout.the-variants.{OfVoice, OfDigits
 use Rattle.payload.specs.Layout.{layoutOf}
 use Rattle.payload.specs.Content.{Reading, readAs, numberOf, ofVoice, ofDigits, ofSignalling, ofFax, ofSid, ofData}
 use Rattle.trunk.specs.declared.Trunk.{Trunk}
-use Rattle.trunk.specs.declared.Heard.the-variants.{HeardNothing, HeardVoice}
 use Rattle.trunk.specs.declared.Told.{Told}
 use Rattle.trunk.specs.Trunk.{refusing, voiceTaken, dialledTo, seizedTo, faxTaken, sidTaken, dataTaken, takenAs, taken}
 use Rattle.trunk.proofs.Cases.{as-layout, picked}
 use Rattle.trunk.specs.Claims.{NumberIsReadings, RefusedStands, Leaves}
 
 -- the trunk after each kind of payload
-not-heard : {A : Type 0} → HeardNothing ≡ HeardVoice → A
-not-heard e = let z : _≡_ {A = ℕ} 0 1 = cc in absurd (omega arith)
+abbrev Ends : Trunk → VoiceRead → Type 0
+Ends t read = voiceTaken t read .number ≡ sound → voiceTaken t read .trunk ≡ record { digits = dialling.voiceHeard (t .digits); signalling = t .signalling }
 
-voice-leaves : (t : Trunk) (read : VoiceRead) → voiceTaken t read .heard ≡ HeardVoice → voiceTaken t read .trunk ≡ record { digits = dialling.voiceHeard (t .digits); signalling = t .signalling }
-voice-leaves t (Voice sequence coding front) heard = refl
-voice-leaves t (BadVoice number) heard = not-heard heard
+-- by the number of a voice payload, which no refusal has as 0
+voice-leaves : (t : Trunk) (r : Record) (p : List ℕ) → Ends t (voiceRead r p)
+unfolding voiceRead
+voice-leaves t r p =
+    subst (Ends t) (sym (order.by-number BadVoice _ (readRefusals r p) (tt, (tt, (tt, (tt, (tt, (tt, tt))))))))
+    (picked (Ends t) (eqb (order.numberOf (readRefusals r p)) 0) _ _ (λ h none. refl) (λ h none. absurd (eqb-false (order.numberOf (readRefusals r p)) 0 h none)))
 
 untoned : (r : dialling-receiver.Receiver) → r .on ≡ false → r .code ≡ 0 → dialling.voiceHeard r ≡ r
 untoned r off none = sym (ap₂ (λ (on : Bool) (code : ℕ). record { heard = r .heard; last = r .last; on = on; code = code }) off none)
@@ -188,8 +191,8 @@ leaves =
       fragments = λ t found ptype p e. trunk-as t found ptype p e ∙ data-leaves t (dataRead p);
       digits = λ t found ptype p e. trunk-as t found ptype p e ∙ digit-trunk t p;
       signalling = λ t found ptype p e. trunk-as t found ptype p e ∙ signalling-trunk t p;
-      voice = λ t found ptype p r e heard.
+      voice = λ t found ptype p r e taken-so.
           trunk-as t found ptype p e
-          ∙ voice-leaves t (voiceRead r p) (sym (ap (λ (x : Told). x .heard) (as-layout t found ptype p e)) ∙ heard);
+          ∙ voice-leaves t r p (sym (ap (λ (x : Told). x .number) (as-layout t found ptype p e)) ∙ taken-so);
       voice-untoned = λ t found ptype p r e off none. trunk-as t found ptype p e ∙ voice-untoned t (voiceRead r p) off none;
     }

@@ -13,7 +13,6 @@ use Rattle.payload.specs.declared.layout.Layout.the-variants.{OfVoice, OfDigits
 use Rattle.payload.specs.Content.{payloadRead, numberOf}
 use Rattle.payload.specs.Layout.{layoutOf}
 use Rattle.trunk.specs.declared.Trunk.{Trunk}
-use Rattle.trunk.specs.declared.Heard.the-variants.{HeardVoice}
 use Rattle.trunk.specs.Trunk.{taken, refusing}
 
 -- The number is that of reading the payload; and a refused payload changes nothing and appends nothing.
@@ -39,6 +38,6 @@ pub record Leaves : Type 0 where
   -- a signalling payload leaves the digit receiver, and the signalling receiver is then as after `received`
   pub signalling : (t : Trunk) (found : Found) (ptype : ℕ) (p : List ℕ) → layoutOf found ptype ≡ OfSignalling → taken t found ptype p .trunk ≡ record { digits = t .digits; signalling = seizing.received (t .signalling) p .receiver }
   -- accepted voice leaves the signalling receiver, and of the digit receiver all but the tone: that is then off
-  pub voice : (t : Trunk) (found : Found) (ptype : ℕ) (p : List ℕ) (r : Record) → layoutOf found ptype ≡ OfVoice r → taken t found ptype p .heard ≡ HeardVoice → taken t found ptype p .trunk ≡ record { digits = record { heard = t .digits .heard; last = t .digits .last; on = false; code = 0 }; signalling = t .signalling }
+  pub voice : (t : Trunk) (found : Found) (ptype : ℕ) (p : List ℕ) (r : Record) → layoutOf found ptype ≡ OfVoice r → taken t found ptype p .number ≡ sound → taken t found ptype p .trunk ≡ record { digits = record { heard = t .digits .heard; last = t .digits .last; on = false; code = 0 }; signalling = t .signalling }
   -- where no tone sounds, voice leaves the whole trunk
   pub voice-untoned : (t : Trunk) (found : Found) (ptype : ℕ) (p : List ℕ) (r : Record) → layoutOf found ptype ≡ OfVoice r → t .digits .on ≡ false → t .digits .code ≡ 0 → taken t found ptype p .trunk ≡ t
