@@ -28,12 +28,13 @@ numberAfter n (Sent d) = suc n
 numberAfter n Unsent = n
 numberAfter n (BadEntry refusal) = n
 
+-- what leaves at an answer, with these octets
 abbrev pub emittedAs : ℕ → Sending → List ℕ → List Emission
 emittedAs n (Sent d) octets = record { number = n; octets = octets } ∷ []
 emittedAs n Unsent octets = []
 emittedAs n (BadEntry refusal) octets = []
 
--- the octets of a payload that is sent
+-- and the octets: those that the payload is written as
 abbrev pub octetsSent : Sending → List ℕ
 octetsSent (Sent d) = octetsOf (digitsMade d)
 octetsSent Unsent = []

@@ -29,7 +29,7 @@ repeats s answer = eqb (answer .sender .last .0) (s .last .0)
 
 -- The sender's run over its entries, where n periods were sent before. Where nothing is due, the entry is refused and is no
 -- period, or its period is not sent: "Unsent periods have no number." A sent period has the number n; "a static repeat counts
--- as the payload it repeats", the last that was sent.
+-- as the payload it repeats", the last that was sent. What leaves at an answer, with these octets:
 abbrev pub emittedAs : Sender → ℕ → Sent → List ℕ → List Emission
 emittedAs s n answer octets =
     cond (answer .due)
@@ -40,6 +40,7 @@ emittedAs s n answer octets =
     ∷ [])
     []
 
+-- and with those that the payload is written as
 abbrev pub emitted : Sender → ℕ → Sent → List Emission
 emitted s n answer = emittedAs s n answer (octetsOf (signallingMade (answer .signalling)))
 
