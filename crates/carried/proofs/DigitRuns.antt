@@ -38,7 +38,7 @@ picked-numbers : (gs : List ℕ) → map numberOf (picked gs sent) ≡ picked gs
 picked-numbers gs = picked-map numberOf gs sent ∙ ap (picked gs) numbers
 
 -- the payloads amid the voice
-payloads-amid : (ps : List Emission) → payloadsOf (amid ps) ≡ ps
+pub payloads-amid : (ps : List Emission) → payloadsOf (amid ps) ≡ ps
 payloads-amid [] = refl
 payloads-amid (p ∷ ps) = ap {B = List Emission} (λ qs. p ∷ qs) (payloads-amid ps)
 

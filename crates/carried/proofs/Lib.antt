@@ -10,3 +10,6 @@ pub mod SignallingRuns
 pub mod Bounds
 pub mod Trunks
 pub mod Tied
+pub mod Calls
+pub mod DigitsSent
+pub mod TrunkRuns

@@ -28,7 +28,6 @@ use Rattle.signalling.specs.declared.layout.Signalling.{Signalling}
 use Rattle.signalling.specs.declared.layout.SignallingRead.{SignallingRead}
 use Rattle.signalling.specs.Layout.{signallingRead}
 use Rattle.dialling.specs.declared.receiver.Receiver as digit-receiver
-use Rattle.dialling.specs.declared.receiver.Received as digit-received
 use Rattle.dialling.specs.Receiver as dialling
 use Rattle.seizing.specs.declared.receiver.Receiver as signalling-receiver
 use Rattle.seizing.specs.declared.receiver.Received as signalling-received

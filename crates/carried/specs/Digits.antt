@@ -1,8 +1,8 @@
 -- Demand 3 for digits: what two fresh receivers have in their records when payloads of one sender arrive, through the octets
 -- of the payloads. Proved in proofs/Digits.antt, by the replay theorem.
 --
--- It holds of the code by the contracts: `sending` is what `dialling::sender::send` answers, `digitsMade` is what
--- `digits::layout::put_digits` writes, `received` is what `dialling::receiver::receive` answers, `voiceHeard` is what
+-- It holds of the code by the contracts, as Tied.antt says: `sending` is what `dialling::sender::send` answers, `digitsMade` is
+-- what `digits::layout::put_digits` writes, `received` is what `dialling::receiver::receive` answers, `voiceHeard` is what
 -- `dialling::receiver::hear_voice` returns, and `freshSender` and `freshReceiver` are what the two `fresh` return.
 use Prim.Native.Nat.{ℕ, suc}
 use mathlib.Core.List.{List, [], _∷_, _++_, map}
@@ -28,10 +28,20 @@ numberAfter n (Sent d) = suc n
 numberAfter n Unsent = n
 numberAfter n (BadEntry refusal) = n
 
+-- what leaves at an answer, with these octets
+abbrev pub emittedAs : ℕ → Sending → List ℕ → List Emission
+emittedAs n (Sent d) octets = record { number = n; octets = octets } ∷ []
+emittedAs n Unsent octets = []
+emittedAs n (BadEntry refusal) octets = []
+
+-- and the octets: those that the payload is written as
+abbrev pub octetsSent : Sending → List ℕ
+octetsSent (Sent d) = octetsOf (digitsMade d)
+octetsSent Unsent = []
+octetsSent (BadEntry refusal) = []
+
 abbrev pub emitted : ℕ → Sending → List Emission
-emitted n (Sent d) = record { number = n; octets = octetsOf (digitsMade d) } ∷ []
-emitted n Unsent = []
-emitted n (BadEntry refusal) = []
+emitted n answer = emittedAs n answer (octetsSent answer)
 
 abbrev pub emissions : Sender → ℕ → List Entry → List Emission
 emissions s n [] = []

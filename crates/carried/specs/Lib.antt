@@ -6,3 +6,5 @@ pub mod SignallingRuns
 pub mod Bounds
 pub mod Trunks
 pub mod Tied
+pub mod DigitsSent
+pub mod TrunkRuns

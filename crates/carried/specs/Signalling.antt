@@ -1,7 +1,7 @@
 -- Demand 3 for signalling (seizure bits): what two fresh receivers have in their records when payloads of one sender arrive,
 -- through the octets of the payloads. Proved in proofs/Signalling.antt, by the replay theorem.
 --
--- It holds of the code by the contracts: `started` is what `seizing::sender::start` answers, `sent` is what
+-- It holds of the code by the contracts, as Tied.antt says: `started` is what `seizing::sender::start` answers, `sent` is what
 -- `seizing::sender::send` answers, `signallingMade` is what `signalling::layout::put_signalling` writes, `received` is what
 -- `seizing::receiver::receive` answers, and `freshReceiver` is what `seizing::receiver::fresh` returns.
 use Prim.Native.Nat.{ℕ, suc, _-_}
@@ -29,16 +29,20 @@ repeats s answer = eqb (answer .sender .last .0) (s .last .0)
 
 -- The sender's run over its entries, where n periods were sent before. Where nothing is due, the entry is refused and is no
 -- period, or its period is not sent: "Unsent periods have no number." A sent period has the number n; "a static repeat counts
--- as the payload it repeats", the last that was sent.
-abbrev pub emitted : Sender → ℕ → Sent → List Emission
-emitted s n answer =
+-- as the payload it repeats", the last that was sent. What leaves at an answer, with these octets:
+abbrev pub emittedAs : Sender → ℕ → Sent → List ℕ → List Emission
+emittedAs s n answer octets =
     cond (answer .due)
     (record {
       number = cond (repeats s answer) (n - 1) n;
-      octets = octetsOf (signallingMade (answer .signalling));
+      octets = octets;
     }
     ∷ [])
     []
+
+-- and with those that the payload is written as
+abbrev pub emitted : Sender → ℕ → Sent → List Emission
+emitted s n answer = emittedAs s n answer (octetsOf (signallingMade (answer .signalling)))
 
 abbrev pub numberAfter : Sender → ℕ → Sent → ℕ
 numberAfter s n answer = cond (answer .due) (cond (repeats s answer) n (suc n)) n

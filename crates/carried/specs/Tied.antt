@@ -1,14 +1,36 @@
 -- Demand 3 speaks of definitions, and these are what the functions' contracts say: results that meet the contract of a function
--- (`Post`, which the kit makes of it) are the definition's. Where a contract cited another definition, this would have no proof.
--- Proved in proofs/Tied.antt.
+-- (`Post`, which the kit makes of it) are the definition's; and what comes of calls that meet them, one after the other, is what
+-- demand 3 speaks of. Where a contract cited another definition, this would have no proof. Proved in proofs/Tied.antt and
+-- proofs/Calls.antt.
 use Prim.Native.Nat.{ℕ}
 use mathlib.Core.Path.{_≡_}
-use mathlib.Core.List.{List}
-use contract.Lifetimes.{Lfts}
-use borrow.Fn.Kinds.{PK, RK, Dens, Out, resT, endedOf}
+use mathlib.Core.List.{List, [], _∷_, _++_}
+use mathlib.Core.Bool.{true}
+use lib.ListN.{take, drop}
 use denote.Ref.{now}
-use denote.Triple.Clauses.{AtExit}
+use Rattle.contracts.specs.Contracts.{Answers, Leaves, Met}
+use Rattle.refusal.specs.Numbers.{sound}
+use Rattle.octets.specs.declared.Put.{Put}
+use Rattle.octets.specs.declared.Put.the-variants.{Written}
 use Rattle.octets.specs.Made.{putMade, leftMade}
+use Rattle.record.specs.declared.table.Found.{Found}
+use Rattle.digits.specs.declared.layout.Window.{Window}
+use Rattle.digits.specs.declared.layout.Digits as digits-layout
+use Rattle.signalling.specs.declared.layout.Signalling as signalling-layout
+use Rattle.dialling.specs.declared.sender.Entry as digit-entry
+use Rattle.dialling.specs.declared.sender.Sender as digit-sender
+use Rattle.dialling.specs.declared.sender.Sending.the-variants.{Sent}
+use Rattle.dialling.specs.declared.sender.Taken as digit-taken
+use Rattle.dialling.specs.declared.receiver.Receiver as digit-receiver
+use Rattle.dialling.specs.declared.receiver.Received as digit-received
+use Rattle.seizing.specs.declared.sender.Entry as signalling-entry
+use Rattle.seizing.specs.declared.sender.Sender as signalling-sender
+use Rattle.seizing.specs.declared.sender.Started as signalling-started
+use Rattle.seizing.specs.declared.sender.Sent as signalling-sent
+use Rattle.seizing.specs.declared.receiver.Receiver as signalling-receiver
+use Rattle.seizing.specs.declared.receiver.Received as signalling-received
+use Rattle.trunk.specs.declared.Trunk.{Trunk}
+use Rattle.trunk.specs.declared.Told.{Told}
 use Rattle.digits.specs.Layout.{digitsMade}
 use Rattle.signalling.specs.Layout.{signallingMade}
 use Rattle.dialling.specs.Sender.{freshSender, sending}
@@ -16,6 +38,12 @@ use Rattle.dialling.specs.Receiver as dialling
 use Rattle.seizing.specs.Sender.{started, sent}
 use Rattle.seizing.specs.Receiver as seizing
 use Rattle.trunk.specs.Trunk.{freshTrunk, taken}
+use Rattle.replay.specs.Periods.{Mark, Near, Among, Sublist}
+use Rattle.replay.specs.Claims.{BothReplay}
+use Rattle.carried.specs.Emissions.{Emission}
+use Rattle.carried.specs.Digits as digits
+use Rattle.carried.specs.Signalling as signalling
+use Rattle.carried.specs.Trunks.{Coming, came, other, arrivals, dialledMarks, digitRecord, seizedMarks, signallingRecord, DigitsGiven, SignallingGiven}
 use Rattle.dialling.proofs.sender.fresh.Kinds as digit-sender-kinds
 use Rattle.dialling.proofs.sender.fresh.Reads as digit-sender-reads
 use Rattle.dialling.proofs.sender.send.Kinds as digit-send-kinds
@@ -43,16 +71,6 @@ use Rattle.trunk.proofs.fresh.Reads as trunk-reads
 use Rattle.trunk.proofs.take.Kinds as take-kinds
 use Rattle.trunk.proofs.take.Reads as take-reads
 
--- a result that meets a contract is what `says` makes of the arguments
-abbrev pub Answers : (n : ℕ) (ps : List (PK n)) (r : RK n) → ((κs : Lfts n) → Dens κs ps → resT r κs .Denot) → Out n ps r → Type 0
-Answers n ps r says post =
-    (κs : Lfts n) (a : Dens κs ps) (x : resT r κs .Denot) (s : AtExit (endedOf n ps r) κs) → post κs a x s → x ≡ says κs a
-
--- and what a lent buffer holds then is what `leaves` makes of them
-abbrev pub Leaves : (n : ℕ) (ps : List (PK n)) (r : RK n) {H : Type 0} → ((κs : Lfts n) → AtExit (endedOf n ps r) κs → H) → ((κs : Lfts n) → Dens κs ps → H) → Out n ps r → Type 0
-Leaves n ps r lent leaves post =
-    (κs : Lfts n) (a : Dens κs ps) (x : resT r κs .Denot) (s : AtExit (endedOf n ps r) κs) → post κs a x s → lent κs s ≡ leaves κs a
-
 pub record Tied : Type 0 where
   pub digit-sender : Answers 0 digit-sender-kinds.ps digit-sender-kinds.r (λ κs a. freshSender) digit-sender-reads.Post
   pub digit-send : Answers 0 digit-send-kinds.ps digit-send-kinds.r (λ κs a. sending (a .0) (a .1 .0)) digit-send-reads.Post
@@ -69,3 +87,163 @@ pub record Tied : Type 0 where
   pub signalling-receive : Answers 1 signalling-receive-kinds.ps signalling-receive-kinds.r (λ κs a. seizing.received (a .0) (now (a .1 .0))) signalling-receive-reads.Post
   pub trunk : Answers 0 trunk-kinds.ps trunk-kinds.r (λ κs a. freshTrunk) trunk-reads.Post
   pub take : Answers 1 take-kinds.ps take-kinds.r (λ κs a. taken (a .0) (a .1 .0) (a .1 .1 .0) (now (a .1 .1 .1 .0))) take-reads.Post
+
+-- Octets that a call of a put function left in lent room, from where it was told to write to where it said that they end. `Call`
+-- is the call: of the room, the place, the answer, and the room then.
+pub record Puts (Call : List ℕ → ℕ → Put → List ℕ → Type 0) (octets : List ℕ) : Type 0 where
+  pub room : List ℕ
+  pub at : ℕ
+  pub next : ℕ
+  pub left : List ℕ
+  pub call : Call room at (Written next) left
+  pub stands : octets ≡ drop at (take next left)
+
+-- The digit sender: calls of `send`, each handed the sender that the one before returned, and of `put_digits` for what is sent.
+abbrev pub DigitsPut : digits-layout.Digits → List ℕ → ℕ → Put → List ℕ → Type 0
+DigitsPut d room at answer left =
+    Met 1 put-digits-kinds.ps put-digits-kinds.r put-digits-reads.Post {I = List ℕ × ℕ × digits-layout.Digits} {O = Put × List ℕ} (λ κs a. (now (a .0), a .1 .0, a .1 .1 .0)) (λ κs x s. (x, now (s .0))) (room, at, d) (answer, left)
+
+pub data DigitsSent : digit-sender.Sender → ℕ → List digit-entry.Entry → List Emission → Type 0 where
+  no-more-digits : (s : digit-sender.Sender) (n : ℕ) → DigitsSent s n [] []
+  digits-on : (s : digit-sender.Sender) (n : ℕ) (e : digit-entry.Entry) (es : List digit-entry.Entry) (x : digit-taken.Taken) (octets : List ℕ) (ps : List Emission)
+      → Met 0 digit-send-kinds.ps digit-send-kinds.r digit-send-reads.Post {I = digit-sender.Sender × digit-entry.Entry} (λ κs a. (a .0, a .1 .0)) (λ κs x s. x) (s, e) x
+      → ((d : digits-layout.Digits) → x .answer ≡ Sent d → Puts (DigitsPut d) octets)
+      → DigitsSent (x .sender) (digits.numberAfter n (x .answer)) es ps
+      → DigitsSent s n (e ∷ es) (digits.emittedAs n (x .answer) octets ++ ps)
+
+-- A digit receiver: calls of `receive` and `hear_voice`, each handed the receiver that the one before returned.
+pub data DigitsReceived : digit-receiver.Receiver → List digits.Heard → List (Mark Window) → Type 0 where
+  no-more-heard : (r : digit-receiver.Receiver) → DigitsReceived r [] []
+  receives-on : (r : digit-receiver.Receiver) (p : Emission) (hs : List digits.Heard) (x : digit-received.Received) (ms : List (Mark Window))
+      → Met 1 digit-receive-kinds.ps digit-receive-kinds.r digit-receive-reads.Post {I = digit-receiver.Receiver × List ℕ} (λ κs a. (a .0, now (a .1 .0))) (λ κs x s. x) (r, p .octets) x
+      → DigitsReceived (x .receiver) hs ms
+      → DigitsReceived r (digits.came p ∷ hs) (digits.marksOf x ++ ms)
+  hears-on : (r after : digit-receiver.Receiver) (hs : List digits.Heard) (ms : List (Mark Window))
+      → Met 0 hear-voice-kinds.ps hear-voice-kinds.r hear-voice-reads.Post (λ κs a. a .0) (λ κs x s. x) r after
+      → DigitsReceived after hs ms
+      → DigitsReceived r (digits.voice ∷ hs) ms
+
+-- The signalling sender and a signalling receiver, in the same way.
+abbrev pub SignallingPut : signalling-layout.Signalling → List ℕ → ℕ → Put → List ℕ → Type 0
+SignallingPut d room at answer left =
+    Met 1 put-signalling-kinds.ps put-signalling-kinds.r put-signalling-reads.Post {I = List ℕ × ℕ × signalling-layout.Signalling} {O = Put × List ℕ} (λ κs a. (now (a .0), a .1 .0, a .1 .1 .0)) (λ κs x s. (x, now (s .0))) (room, at, d) (answer, left)
+
+pub data SignallingSent : signalling-sender.Sender → ℕ → List signalling-entry.Entry → List Emission → Type 0 where
+  no-more-samples : (s : signalling-sender.Sender) (n : ℕ) → SignallingSent s n [] []
+  samples-on : (s : signalling-sender.Sender) (n : ℕ) (e : signalling-entry.Entry) (es : List signalling-entry.Entry) (x : signalling-sent.Sent) (octets : List ℕ) (ps : List Emission)
+      → Met 0 signalling-send-kinds.ps signalling-send-kinds.r signalling-send-reads.Post {I = signalling-sender.Sender × signalling-entry.Entry} (λ κs a. (a .0, a .1 .0)) (λ κs x s. x) (s, e) x
+      → (x .due ≡ true → Puts (SignallingPut (x .signalling)) octets)
+      → SignallingSent (x .sender) (signalling.numberAfter s n x) es ps
+      → SignallingSent s n (e ∷ es) (signalling.emittedAs s n x octets ++ ps)
+
+pub data SignallingReceived : signalling-receiver.Receiver → List Emission → List (Mark (List ℕ)) → Type 0 where
+  no-more-come : (r : signalling-receiver.Receiver) → SignallingReceived r [] []
+  comes-on : (r : signalling-receiver.Receiver) (p : Emission) (ps : List Emission) (x : signalling-received.Received) (ms : List (Mark (List ℕ)))
+      → Met 1 signalling-receive-kinds.ps signalling-receive-kinds.r signalling-receive-reads.Post {I = signalling-receiver.Receiver × List ℕ} (λ κs a. (a .0, now (a .1 .0))) (λ κs x s. x) (r, p .octets) x
+      → SignallingReceived (x .receiver) ps ms
+      → SignallingReceived r (p ∷ ps) (signalling.marksOf x ++ ms)
+
+-- A trunk: calls of `take`, each handed the trunk that the one before returned. The sender's payloads have the type `kind`.
+abbrev pub typeOf : ℕ → Coming → ℕ
+typeOf kind (came p) = kind
+typeOf kind (other ptype octets) = ptype
+
+abbrev pub octetsIn : Coming → List ℕ
+octetsIn (came p) = p .octets
+octetsIn (other ptype octets) = octets
+
+pub data TrunkTold (kind : ℕ) (found : Found) : Trunk → List Coming → List Told → Type 0 where
+  no-more-told : (t : Trunk) → TrunkTold kind found t [] []
+  tells-on : (t : Trunk) (c : Coming) (cs : List Coming) (x : Told) (xs : List Told)
+      → Met 1 take-kinds.ps take-kinds.r take-reads.Post {I = Trunk × Found × ℕ × List ℕ} (λ κs a. (a .0, a .1 .0, a .1 .1 .0, now (a .1 .1 .1 .0))) (λ κs x s. x) (t, found, typeOf kind c, octetsIn c) x
+      → TrunkTold kind found (x .trunk) cs xs
+      → TrunkTold kind found t (c ∷ cs) (x ∷ xs)
+
+abbrev pub digitMarks : List Told → List (Mark Window)
+digitMarks [] = []
+digitMarks (x ∷ xs) = dialledMarks (x .dialled) ++ digitMarks xs
+
+abbrev pub signallingMarks : List Told → List (Mark (List ℕ))
+signallingMarks [] = []
+signallingMarks (x ∷ xs) = seizedMarks (x .seized) ++ signallingMarks xs
+
+-- What comes of such calls is what demand 3 speaks of.
+pub record CallsAre : Type 0 where
+  pub digits-sent : (s : digit-sender.Sender) (n : ℕ) (es : List digit-entry.Entry) (ps : List Emission) → DigitsSent s n es ps → ps ≡ digits.emissions s n es
+  pub digits-received : (r : digit-receiver.Receiver) (hs : List digits.Heard) (ms : List (Mark Window)) → DigitsReceived r hs ms → ms ≡ digits.marks r hs
+  pub signalling-sent : (s : signalling-sender.Sender) (n : ℕ) (es : List signalling-entry.Entry) (ps : List Emission) → SignallingSent s n es ps → ps ≡ signalling.emissions s n es
+  pub signalling-received : (r : signalling-receiver.Receiver) (ps : List Emission) (ms : List (Mark (List ℕ))) → SignallingReceived r ps ms → ms ≡ signalling.marks r ps
+  pub trunk-digits : (found : Found) (t : Trunk) (cs : List Coming) (xs : List Told) → TrunkTold 1 found t cs xs → digitMarks xs ≡ digitRecord found t cs
+  pub trunk-signalling : (found : Found) (t : Trunk) (cs : List Coming) (xs : List Told) → TrunkTold 2 found t cs xs → signallingMarks xs ≡ signallingRecord found t cs
+
+-- So demand 3 holds of calls: a sender and two receivers, each begun with what its `fresh` or `start` returns.
+pub record DigitCalls (entries : List digit-entry.Entry) (first second : List digits.Heard) (marks marks2 : List (Mark Window)) : Type 0 where
+  pub sender : digit-sender.Sender
+  pub receiver : digit-receiver.Receiver
+  pub receiver2 : digit-receiver.Receiver
+  pub payloads : List Emission
+  pub sender-fresh : Met 0 digit-sender-kinds.ps digit-sender-kinds.r digit-sender-reads.Post (λ κs a. tt {0}) (λ κs x s. x) (tt {0}) sender
+  pub receiver-fresh : Met 0 digit-receiver-kinds.ps digit-receiver-kinds.r digit-receiver-reads.Post (λ κs a. tt {0}) (λ κs x s. x) (tt {0}) receiver
+  pub receiver2-fresh : Met 0 digit-receiver-kinds.ps digit-receiver-kinds.r digit-receiver-reads.Post (λ κs a. tt {0}) (λ κs x s. x) (tt {0}) receiver2
+  pub sends : DigitsSent sender 0 entries payloads
+  pub receives : DigitsReceived receiver first marks
+  pub receives2 : DigitsReceived receiver2 second marks2
+  pub some : Sublist (digits.payloadsOf second) payloads
+  pub more : Sublist (digits.payloadsOf first) (digits.payloadsOf second)
+  pub near : Near dialling.farthest (digits.arrivals first)
+  pub near2 : Near dialling.farthest (digits.arrivals second)
+
+abbrev pub DigitCallsCarried : Type 0
+DigitCallsCarried =
+    (entries : List digit-entry.Entry) (first second : List digits.Heard) (marks marks2 : List (Mark Window))
+    → DigitCalls entries first second marks marks2
+    → BothReplay (digits.periodOf entries) (digits.arrivals first) marks (digits.arrivals second) marks2
+
+pub record SignallingCalls (start : ℕ) (entries : List signalling-entry.Entry) (first second : List Emission) (marks marks2 : List (Mark (List ℕ))) : Type 0 where
+  pub begun : signalling-started.Started
+  pub receiver : signalling-receiver.Receiver
+  pub receiver2 : signalling-receiver.Receiver
+  pub payloads : List Emission
+  pub starts : Met 0 start-kinds.ps start-kinds.r start-reads.Post (λ κs a. a .0) (λ κs x s. x) start begun
+  pub receiver-fresh : Met 0 signalling-receiver-kinds.ps signalling-receiver-kinds.r signalling-receiver-reads.Post (λ κs a. tt {0}) (λ κs x s. x) (tt {0}) receiver
+  pub receiver2-fresh : Met 0 signalling-receiver-kinds.ps signalling-receiver-kinds.r signalling-receiver-reads.Post (λ κs a. tt {0}) (λ κs x s. x) (tt {0}) receiver2
+  pub sends : SignallingSent (begun .sender) 0 entries payloads
+  pub receives : SignallingReceived receiver first marks
+  pub receives2 : SignallingReceived receiver2 second marks2
+  pub begins : begun .number ≡ sound
+  pub ten : signalling.TenEach entries
+  pub some : Sublist first payloads
+  pub some2 : Sublist second payloads
+  pub more : Among (signalling.arrivals first) (signalling.arrivals second)
+  pub near : Near seizing.farthest (signalling.arrivals first)
+  pub near2 : Near seizing.farthest (signalling.arrivals second)
+
+abbrev pub SignallingCallsCarried : Type 0
+SignallingCallsCarried =
+    (start : ℕ) (entries : List signalling-entry.Entry) (first second : List Emission) (marks marks2 : List (Mark (List ℕ)))
+    → SignallingCalls start entries first second marks marks2
+    → BothReplay (signalling.periodOf start entries) (signalling.arrivals first) marks (signalling.arrivals second) marks2
+
+-- And of two trunks, each begun with what `fresh` returns.
+abbrev pub FreshTrunk : Trunk → Type 0
+FreshTrunk t = Met 0 trunk-kinds.ps trunk-kinds.r trunk-reads.Post (λ κs a. tt {0}) (λ κs x s. x) (tt {0}) t
+
+abbrev pub TrunkDigitCallsCarried : Type 0
+TrunkDigitCallsCarried =
+    (found : Found) (entries : List digit-entry.Entry) (first second : List Coming) (t t2 : Trunk) (told told2 : List Told)
+    → DigitsGiven found entries first second
+    → FreshTrunk t
+    → FreshTrunk t2
+    → TrunkTold 1 found t first told
+    → TrunkTold 1 found t2 second told2
+    → BothReplay (digits.periodOf entries) (arrivals first) (digitMarks told) (arrivals second) (digitMarks told2)
+
+abbrev pub TrunkSignallingCallsCarried : Type 0
+TrunkSignallingCallsCarried =
+    (found : Found) (start : ℕ) (entries : List signalling-entry.Entry) (first second : List Coming) (t t2 : Trunk) (told told2 : List Told)
+    → SignallingGiven found start entries first second
+    → FreshTrunk t
+    → FreshTrunk t2
+    → TrunkTold 2 found t first told
+    → TrunkTold 2 found t2 second told2
+    → BothReplay (signalling.periodOf start entries) (arrivals first) (signallingMarks told) (arrivals second) (signallingMarks told2)

@@ -1,7 +1,9 @@
 -- Demand 3 of a trunk: the sender's payloads come to one sub-channel's trunk among others of that sub-channel, of other kinds
--- (voice, silence, fax, ..) or refused, and its record is that of the theorem. Proved in proofs/Trunks.antt.
+-- (voice, silence, fax, ..) or refused, and its record is that of the theorem. Proved in proofs/Trunks.antt; TrunkRuns.antt has
+-- runs that meet what is asked.
 --
--- It holds of the code by the contracts: `taken` is what `trunk::take` answers, and `freshTrunk` what `trunk::fresh` returns.
+-- It holds of the code by the contracts, as Tied.antt says: `taken` is what `trunk::take` answers, and `freshTrunk` what
+-- `trunk::fresh` returns.
 use Prim.Native.Nat.{ℕ}
 use mathlib.Core.Path.{_≡_}
 use mathlib.Core.List.{List, [], _∷_, _++_, map}

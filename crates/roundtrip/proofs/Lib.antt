@@ -4,3 +4,4 @@ pub mod Taken
 pub mod LessRoom
 pub mod Examples
 pub mod AnyRoom
+pub mod Tied

@@ -1,10 +1,11 @@
 -- Demand 2: "A legal list of sub-frames, written and read again, gives the same list, save that a level above zero and the code
 -- of an off window come back as 0; a written frame is the one shortest form."
 --
--- It holds of the code by the contracts: `writer::place::fresh` is `freshWriter`; the six `write_` functions promise what
--- `writing` and `leftWriting` give, and `fed` is nothing but these, one after the other; `frame::opening::open` promises
--- `answer (opening ..)`, `record::table::record_of` `foundAt`, `payload::layout::layout_of` `layoutOf`, and each `read_` function
--- its part of `readAs`. Proved in proofs/.
+-- It holds of the code by the contracts; Tied.antt says so, and it is proved: `writer::place::fresh` is `freshWriter`; the six
+-- `write_` functions answer and leave what `writing` and `leftWriting` give, and results that meet their contracts, call after
+-- call, are `fed`; `frame::opening::open` answers `answer (opening ..)`, `record::table::record_of` `foundAt`,
+-- `payload::layout::layout_of` `layoutOf`, each `read_` function its part of `readAs`, and what meets their contracts over a frame
+-- is `gotten`. Proved in proofs/.
 use Prim.Native.Nat.{ℕ, _<_, _≤_}
 use mathlib.Core.Path.{_≡_}
 use mathlib.Core.List.{List, [], _∷_, _++_, map}

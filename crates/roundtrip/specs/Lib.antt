@@ -1,2 +1,3 @@
 pub mod Demand2
 pub mod Examples
+pub mod Tied

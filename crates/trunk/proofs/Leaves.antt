@@ -1,17 +1,20 @@
 -- What a payload leaves alone, and its number (specs/Claims.antt).
 use Prim.Native.Nat.{ℕ}
-use mathlib.Core.Path.{_≡_, refl, sym, ap, _∙_}
+use mathlib.Core.Path.{_≡_, refl, sym, ap, ap₂, subst, _∙_}
 use mathlib.Core.List.{List}
 use mathlib.Core.Bool.{Bool, true, false, cond}
-use borrow.Author.Tests.{eqb-true}
+use borrow.Author.Tests.{eqb-true, eqb-false}
 use lib.Dec.{eqb}
 use Rattle.refusal.specs.Numbers.{sound}
+use Rattle.record.specs.declared.syntax.Record.{Record}
+use Rattle.record.specs.declared.table.Found.{Found}
 use Rattle.voice.specs.declared.voice.VoiceRead.{VoiceRead}
 use Rattle.voice.specs.declared.voice.VoiceRead.the-variants.{Voice, BadVoice}
 use Rattle.voice.specs.declared.sid.SidRead.{SidRead}
 use Rattle.voice.specs.declared.sid.SidRead.the-variants.{Silence, BadSid}
-use Rattle.voice.specs.Voice.{voiceRead}
+use Rattle.voice.specs.Voice.{readRefusals, voiceRead}
 use Rattle.voice.specs.Sid.{sidRead}
+use Rattle.voice.proofs.Order as order
 use Rattle.data.specs.declared.DataRead.{DataRead}
 use Rattle.data.specs.declared.DataRead.the-variants.{Fragment, BadData}
 use Rattle.data.specs.Data.{dataRead}
@@ -39,13 +42,42 @@ use Rattle.trunk.proofs.Cases.{as-layout, picked}
 use Rattle.trunk.specs.Claims.{NumberIsReadings, RefusedStands, Leaves}
 
 -- the trunk after each kind of payload
-voice-signalling : (t : Trunk) (read : VoiceRead) → voiceTaken t read .trunk .signalling ≡ t .signalling
-voice-signalling t (Voice sequence coding front) = refl
-voice-signalling t (BadVoice number) = refl
+abbrev Ends : Trunk → VoiceRead → Type 0
+Ends t read = voiceTaken t read .number ≡ sound → voiceTaken t read .trunk ≡ record { digits = dialling.voiceHeard (t .digits); signalling = t .signalling }
 
-voice-sequence : (t : Trunk) (read : VoiceRead) → voiceTaken t read .trunk .digits .last ≡ t .digits .last
-voice-sequence t (Voice sequence coding front) = refl
-voice-sequence t (BadVoice number) = refl
+-- by the number of a voice payload, which no refusal has as 0
+voice-leaves : (t : Trunk) (r : Record) (p : List ℕ) → Ends t (voiceRead r p)
+unfolding voiceRead
+voice-leaves t r p =
+    subst (Ends t) (sym (order.by-number BadVoice _ (readRefusals r p) (tt, (tt, (tt, (tt, (tt, (tt, tt))))))))
+    (picked (Ends t) (eqb (order.numberOf (readRefusals r p)) 0) _ _ (λ h none. refl) (λ h none. absurd (eqb-false (order.numberOf (readRefusals r p)) 0 h none)))
+
+untoned : (r : dialling-receiver.Receiver) → r .on ≡ false → r .code ≡ 0 → dialling.voiceHeard r ≡ r
+untoned r off none = sym (ap₂ (λ (on : Bool) (code : ℕ). record { heard = r .heard; last = r .last; on = on; code = code }) off none)
+
+voice-untoned : (t : Trunk) (read : VoiceRead) → t .digits .on ≡ false → t .digits .code ≡ 0 → voiceTaken t read .trunk ≡ t
+voice-untoned t (Voice sequence coding front) off none = ap (λ (r : dialling-receiver.Receiver). record { digits = r; signalling = t .signalling }) (untoned (t .digits) off none)
+voice-untoned t (BadVoice number) off none = refl
+
+digits-leave : (t : Trunk) (read : DigitsRead) → dialledTo t (dialling.receivedBy (t .digits) read) .trunk ≡ record { digits = dialling.receivedBy (t .digits) read .receiver; signalling = t .signalling }
+digits-leave t (Dialled d) = refl
+digits-leave t (BadDigits n) = picked (λ (x : Told). x .trunk ≡ t) (eqb n sound) _ _ (λ h. refl) (λ h. refl)
+
+digit-trunk : (t : Trunk) (p : List ℕ) → takenAs OfDigits t p .trunk ≡ record { digits = dialling.received (t .digits) p .receiver; signalling = t .signalling }
+unfolding dialling.received
+digit-trunk t p = digits-leave t (digitsRead p)
+
+passed-over-leaves : (t : Trunk) (n : ℕ) → seizedTo t (seizing.passedOver (t .signalling) n) .trunk ≡ t
+passed-over-leaves t n = picked (λ (x : Told). x .trunk ≡ t) (eqb n sound) _ _ (λ h. refl) (λ h. refl)
+
+signalling-trunk : (t : Trunk) (p : List ℕ) → takenAs OfSignalling t p .trunk ≡ record { digits = t .digits; signalling = seizing.received (t .signalling) p .receiver }
+unfolding seizing.received
+signalling-trunk t p =
+    picked (λ (got : signalling.Received). seizedTo t got .trunk ≡ record { digits = t .digits; signalling = got .receiver }) (eqb (signallingRead p .number) sound)
+    (seizing.appended (t .signalling) (signallingRead p .signalling) (seizing.stepFrom (t .signalling) (signallingRead p .signalling .sequence)))
+    (seizing.passedOver (t .signalling) (signallingRead p .number))
+    (λ h. refl)
+    (λ h. passed-over-leaves t (signallingRead p .number))
 
 fax-leaves : (t : Trunk) (read : FaxRead) → faxTaken t read .trunk ≡ t
 fax-leaves t (Fax sequence stamp command front) = refl
@@ -58,22 +90,6 @@ silence-leaves t (BadSid number) = refl
 data-leaves : (t : Trunk) (read : DataRead) → dataTaken t read .trunk ≡ t
 data-leaves t (Fragment begins ends sequence) = refl
 data-leaves t (BadData number) = refl
-
-pub leaves : Leaves
-leaves =
-    record {
-      digits = λ t found ptype p e.
-          ap (λ (x : Told). x .trunk .signalling) (as-layout t found ptype p e)
-          ∙ picked (λ (x : Told). x .trunk .signalling ≡ t .signalling) (eqb (dialling.received (t .digits) p .number) sound) _ _ (λ h. refl) (λ h. refl);
-      signalling = λ t found ptype p e.
-          ap (λ (x : Told). x .trunk .digits) (as-layout t found ptype p e)
-          ∙ picked (λ (x : Told). x .trunk .digits ≡ t .digits) (eqb (seizing.received (t .signalling) p .number) sound) _ _ (λ h. refl) (λ h. refl);
-      voice = λ t found ptype p r e. ap (λ (x : Told). x .trunk .signalling) (as-layout t found ptype p e) ∙ voice-signalling t (voiceRead r p);
-      voice-last = λ t found ptype p r e. ap (λ (x : Told). x .trunk .digits .last) (as-layout t found ptype p e) ∙ voice-sequence t (voiceRead r p);
-      silence = λ t found ptype p s e. ap (λ (x : Told). x .trunk) (as-layout t found ptype p e) ∙ silence-leaves t (sidRead s p);
-      fax = λ t found ptype p e. ap (λ (x : Told). x .trunk) (as-layout t found ptype p e) ∙ fax-leaves t (faxRead p);
-      fragments = λ t found ptype p e. ap (λ (x : Told). x .trunk) (as-layout t found ptype p e) ∙ data-leaves t (dataRead p);
-    }
 
 -- the number that is told of what a receiver answers is its number
 dialled-number : (t : Trunk) (got : digits.Received) → dialledTo t got .number ≡ got .number
@@ -161,3 +177,22 @@ stood-as (NoLayout n) t p = λ h. refl
 pub refused-stands : RefusedStands
 unfolding taken
 refused-stands t found ptype p h = stood-as (layoutOf found ptype) t p h
+
+-- the trunk under a layout
+trunk-as : (t : Trunk) (found : Found) (ptype : ℕ) (p : List ℕ) {l : Layout} → layoutOf found ptype ≡ l → taken t found ptype p .trunk ≡ takenAs l t p .trunk
+trunk-as t found ptype p e = ap (λ (x : Told). x .trunk) (as-layout t found ptype p e)
+
+pub leaves : Leaves
+leaves =
+    record {
+      refused = λ t found ptype p h. ap (λ (x : Told). x .trunk) (refused-stands t found ptype p h);
+      silence = λ t found ptype p s e. trunk-as t found ptype p e ∙ silence-leaves t (sidRead s p);
+      fax = λ t found ptype p e. trunk-as t found ptype p e ∙ fax-leaves t (faxRead p);
+      fragments = λ t found ptype p e. trunk-as t found ptype p e ∙ data-leaves t (dataRead p);
+      digits = λ t found ptype p e. trunk-as t found ptype p e ∙ digit-trunk t p;
+      signalling = λ t found ptype p e. trunk-as t found ptype p e ∙ signalling-trunk t p;
+      voice = λ t found ptype p r e taken-so.
+          trunk-as t found ptype p e
+          ∙ voice-leaves t r p (sym (ap (λ (x : Told). x .number) (as-layout t found ptype p e)) ∙ taken-so);
+      voice-untoned = λ t found ptype p r e off none. trunk-as t found ptype p e ∙ voice-untoned t (voiceRead r p) off none;
+    }

@@ -1,11 +1,14 @@
--- What a payload leaves alone. Proved in proofs/Leaves.antt.
+-- What a payload leaves alone, and its number. Proved in proofs/Leaves.antt.
 use Prim.Native.Nat.{ℕ}
 use mathlib.Core.Path.{_≡_}
 use mathlib.Core.List.{List}
+use mathlib.Core.Bool.{false}
 use Rattle.refusal.specs.Numbers.{sound}
 use Rattle.record.specs.declared.syntax.Record.{Record}
 use Rattle.record.specs.declared.syntax.Syntax.{Syntax}
 use Rattle.record.specs.declared.table.Found.{Found}
+use Rattle.dialling.specs.Receiver as dialling
+use Rattle.seizing.specs.Receiver as seizing
 use Rattle.payload.specs.declared.layout.Layout.the-variants.{OfVoice, OfDigits, OfSignalling, OfFax, OfSid, OfData}
 use Rattle.payload.specs.Content.{payloadRead, numberOf}
 use Rattle.payload.specs.Layout.{layoutOf}
@@ -22,14 +25,19 @@ RefusedStands =
     → (taken t found ptype p .number ≡ sound → ⊥)
     → taken t found ptype p ≡ refusing t (taken t found ptype p .number)
 
+-- Each field is over all trunks, sub-channels, types and payloads; the layout that the record and the type name tells the kind.
 pub record Leaves : Type 0 where
-  -- a digits payload leaves the signalling receiver, a signalling payload the digit receiver
-  pub digits : (t : Trunk) (found : Found) (ptype : ℕ) (p : List ℕ) → layoutOf found ptype ≡ OfDigits → taken t found ptype p .trunk .signalling ≡ t .signalling
-  pub signalling : (t : Trunk) (found : Found) (ptype : ℕ) (p : List ℕ) → layoutOf found ptype ≡ OfSignalling → taken t found ptype p .trunk .digits ≡ t .digits
-  -- voice leaves the signalling receiver, and the last sequence of the digit receiver
-  pub voice : (t : Trunk) (found : Found) (ptype : ℕ) (p : List ℕ) (r : Record) → layoutOf found ptype ≡ OfVoice r → taken t found ptype p .trunk .signalling ≡ t .signalling
-  pub voice-last : (t : Trunk) (found : Found) (ptype : ℕ) (p : List ℕ) (r : Record) → layoutOf found ptype ≡ OfVoice r → taken t found ptype p .trunk .digits .last ≡ t .digits .last
+  -- a refused payload leaves the whole trunk, whatever its kind
+  pub refused : (t : Trunk) (found : Found) (ptype : ℕ) (p : List ℕ) → (taken t found ptype p .number ≡ sound → ⊥) → taken t found ptype p .trunk ≡ t
   -- a silence descriptor, fax and data leave the whole trunk
   pub silence : (t : Trunk) (found : Found) (ptype : ℕ) (p : List ℕ) (s : Syntax) → layoutOf found ptype ≡ OfSid s → taken t found ptype p .trunk ≡ t
   pub fax : (t : Trunk) (found : Found) (ptype : ℕ) (p : List ℕ) → layoutOf found ptype ≡ OfFax → taken t found ptype p .trunk ≡ t
   pub fragments : (t : Trunk) (found : Found) (ptype : ℕ) (p : List ℕ) → layoutOf found ptype ≡ OfData → taken t found ptype p .trunk ≡ t
+  -- a digits payload leaves the signalling receiver, and the digit receiver is then as after `received`
+  pub digits : (t : Trunk) (found : Found) (ptype : ℕ) (p : List ℕ) → layoutOf found ptype ≡ OfDigits → taken t found ptype p .trunk ≡ record { digits = dialling.received (t .digits) p .receiver; signalling = t .signalling }
+  -- a signalling payload leaves the digit receiver, and the signalling receiver is then as after `received`
+  pub signalling : (t : Trunk) (found : Found) (ptype : ℕ) (p : List ℕ) → layoutOf found ptype ≡ OfSignalling → taken t found ptype p .trunk ≡ record { digits = t .digits; signalling = seizing.received (t .signalling) p .receiver }
+  -- accepted voice leaves the signalling receiver, and of the digit receiver all but the tone: that is then off
+  pub voice : (t : Trunk) (found : Found) (ptype : ℕ) (p : List ℕ) (r : Record) → layoutOf found ptype ≡ OfVoice r → taken t found ptype p .number ≡ sound → taken t found ptype p .trunk ≡ record { digits = record { heard = t .digits .heard; last = t .digits .last; on = false; code = 0 }; signalling = t .signalling }
+  -- where no tone sounds, voice leaves the whole trunk
+  pub voice-untoned : (t : Trunk) (found : Found) (ptype : ℕ) (p : List ℕ) (r : Record) → layoutOf found ptype ≡ OfVoice r → t .digits .on ≡ false → t .digits .code ≡ 0 → taken t found ptype p .trunk ≡ t
