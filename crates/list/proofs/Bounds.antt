@@ -13,9 +13,9 @@ use Rattle.octets.specs.declared.Put.the-variants.{Written, NotWritten}
 use Rattle.octets.specs.Room.{written, leftBy}
 use Rattle.recording.specs.declared.stream.Begun.{Begun}
 use Rattle.listing.specs.declared.stream.Listed.{Listed}
-use Rattle.listing.specs.Listing.{listed}
+use Rattle.listing.specs.Listing.{tellLine, listed}
 use Rattle.recording.specs.Pieces.{textEnd}
-use Rattle.listing.specs.Stream.{tellLine, pieceListed, answer, lastListed}
+use Rattle.listing.specs.Stream.{pieceListed, answer, lastListed}
 use Rattle.recording.proofs.Ends as ends
 use Rattle.recording.proofs.Walks as walks
 

@@ -6,4 +6,5 @@ pub mod SubsTurns
 pub mod StreamTurns
 pub mod Digits
 pub mod InputStart
+pub mod Pieces
 pub mod Examples

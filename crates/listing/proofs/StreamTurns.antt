@@ -21,8 +21,8 @@ use Rattle.recording.proofs.Ends as ends
 use Rattle.recording.proofs.Keeping as keeping
 use Rattle.recording.proofs.Walks as walks
 use Rattle.listing.specs.declared.stream.Listed.{Listed}
-use Rattle.listing.specs.Listing.{lineListing, listed}
-use Rattle.listing.specs.Stream.{tellLine, answer, lastListed}
+use Rattle.listing.specs.Listing.{lineListing, tellLine, listed}
+use Rattle.listing.specs.Stream.{answer, lastListed}
 use Rattle.listing.specs.Private.{Appended, listingOf}
 use Rattle.listing.proofs.Listings as listings
 

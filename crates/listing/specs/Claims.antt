@@ -1,14 +1,17 @@
--- What the program builds on: fixed memory is enough for a line and for the text, and the printed digits tell the number.
--- Proved in proofs/Digits.antt and proofs/InputStart.antt.
+-- What the program builds on: fixed memory is enough for a line and for the text, the pieces print the whole input's listing, and
+-- the printed digits tell the number. Proved in proofs/Digits.antt, proofs/InputStart.antt and proofs/Pieces.antt.
 use Prim.Native.Nat.{ℕ, _+_, _-_, _*_, _<_, _≤_}
 use mathlib.Core.Path.{_≡_}
-use mathlib.Core.List.{List, [], _∷_}
-use lib.ListN.{length, take}
+use mathlib.Core.List.{List, [], _∷_, _++_}
+use mathlib.Core.Logic.{_⊎_}
+use lib.ListN.{length, take, drop}
 use Rattle.provisioning.specs.Text.{Reading, taken, Entry, reading}
 use Rattle.recording.specs.Claims.{mostKept}
-use Rattle.recording.specs.Pieces.{textEnd, lineSize}
+use Rattle.recording.specs.Pieces.{textEnd, lineSize, lineEnds}
+use Rattle.recording.specs.Walk.{whole}
 use Rattle.listing.specs.Decimal.{decimal}
-use Rattle.listing.specs.Listing.{lineListing}
+use Rattle.listing.specs.Listing.{lineListing, listing, mostListed}
+use Rattle.listing.specs.Stream.{piecesListed}
 
 -- what decimal digits say, after others that say `before`
 abbrev pub valueOf : ℕ → List ℕ → ℕ
@@ -36,3 +39,14 @@ FirstPieceDecides = (input : List ℕ) (n : ℕ) → 8198 ≤ n → textRead (ta
 abbrev pub FirstPieceEnds : Type 0
 FirstPieceEnds =
     (input : List ℕ) (n : ℕ) (es : List Entry) → 8198 ≤ n → textRead input ≡ taken es → textEnd (take n input) ≡ textEnd input
+
+-- However the input is cut into pieces, what is printed over them is its listing, where the first has 8,198 octets or is all there
+-- is. The room is there for a line's listing; the frame numbers stay below 2^64.
+abbrev pub PiecesList : Type 0
+PiecesList =
+    (room : ℕ) (kept first : List ℕ) (pieces : List (List ℕ))
+    → mostListed ≤ room
+    → length kept ≡ mostKept
+    → (8198 ≤ length first) ⊎ (whole pieces ≡ [])
+    → lineEnds (drop (textEnd (first ++ whole pieces)) (first ++ whole pieces)) < 18446744073709551616
+    → piecesListed room kept first pieces ≡ listing (first ++ whole pieces)

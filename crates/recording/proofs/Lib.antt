@@ -6,5 +6,6 @@ pub mod Keeping
 pub mod LineCases
 pub mod Taking
 pub mod Walks
+pub mod Joins
 pub mod LineStart
 pub mod TextStart

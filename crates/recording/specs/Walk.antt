@@ -1,5 +1,5 @@
--- A recording gone through in fixed memory by a program that tells a text of each line (document 01, "Listing program"): what it
--- tells of a piece, of a last line, and of all lines. A state goes on from line to line.
+-- A recording gone through by a program that tells a text of each line (document 01, "Listing program"): what it tells of all
+-- lines, and, in fixed memory, of a piece, of a last line, and of pieces one after the other. A state goes on from line to line.
 use Prim.Native.Nat.{ℕ, zero, suc, _+_, _-_}
 use mathlib.Core.List.{List, [], _∷_, _++_}
 use mathlib.Core.Bool.{cond}
@@ -21,6 +21,23 @@ nothing state = record { text = []; state = state }
 -- What a program tells of a line, by its number, its octets and the state before it.
 abbrev pub Tell : Type 0 → Type 0
 Tell S = ℕ → List ℕ → S → Told S
+
+-- what is told behind a text
+abbrev pub behind : {S : Type 0} → List ℕ → Told S → Told S
+behind text told = record { text = text ++ told .text; state = told .state }
+
+-- The lines of s from number n on. Each has an octet, so that a first number not below the octets is enough.
+unfoldable pub linesTold : {S : Type 0} → Tell S → ℕ → ℕ → S → List ℕ → Told S
+linesTold tell zero n state s = nothing state
+linesTold tell (suc more) n state [] = nothing state
+linesTold tell (suc more) n state (x ∷ xs) =
+    let size = lineSize (x ∷ xs) in
+    let told = tell n (take size (x ∷ xs)) state in
+    behind (told .text) (linesTold tell more (n + 1) (told .state) (drop size (x ∷ xs)))
+
+-- "frame number from 0"
+abbrev pub allTold : {S : Type 0} → Tell S → S → List ℕ → Told S
+allTold tell state s = linesTold tell (length s) 0 state s
 
 -- What going through a piece does: the text, the octets taken, the lent room for a line with the octets that are kept there, how
 -- the next line stands, and the state.
@@ -65,3 +82,29 @@ unfoldable pub lastTold : {S : Type 0} → Tell S → ℕ → ℕ → Begun → 
 lastTold tell most room begun kept state =
     cond (eqb (begun .have) 0) (nothing state)
     (cond (ltb room most) (nothing state) (tell (begun .number) (take (begun .have) kept) state))
+
+-- A piece in as many parts as the room asks: what is left of it is handed over again, with the room anew. Each part has an octet.
+unfoldable pub partsTold : {S : Type 0} → Tell S → ℕ → ℕ → ℕ → Begun → List ℕ → S → List ℕ → Walk S
+partsTold tell most zero room begun kept state piece = stopped begun kept state
+partsTold tell most (suc more) room begun kept state [] = stopped begun kept state
+partsTold tell most (suc more) room begun kept state (x ∷ xs) =
+    let w = pieceTold tell most room begun kept state (x ∷ xs) in
+    before (w .text) (w .taken) (partsTold tell most more room (w .next) (w .kept) (w .state) (drop (w .taken) (x ∷ xs)))
+
+-- piece after piece
+unfoldable pub piecesTold : {S : Type 0} → Tell S → ℕ → ℕ → Begun → List ℕ → S → List (List ℕ) → Walk S
+piecesTold tell most room begun kept state [] = stopped begun kept state
+piecesTold tell most room begun kept state (piece ∷ pieces) =
+    let w = partsTold tell most (length piece) room begun kept state piece in
+    before (w .text) (w .taken) (piecesTold tell most room (w .next) (w .kept) (w .state) pieces)
+
+-- An input in pieces, from the first to the last line; `kept` is the lent room for a line, whatever stands there.
+abbrev pub inputTold : {S : Type 0} → Tell S → ℕ → ℕ → List ℕ → S → List (List ℕ) → Told S
+inputTold tell most room kept state pieces =
+    let w = piecesTold tell most room (record { have = 0; number = 0 }) kept state pieces in
+    behind (w .text) (lastTold tell most room (w .next) (w .kept) (w .state))
+
+-- the octets of all pieces
+unfoldable pub whole : List (List ℕ) → List ℕ
+whole [] = []
+whole (piece ∷ pieces) = piece ++ whole pieces

@@ -5,7 +5,8 @@ use native.Mathlib.Omega.{arith}
 use lib.ListN.{length}
 use borrow.Author.Needs.{needs}
 use Rattle.recording.proofs.Walks as walks
-use Rattle.listing.specs.Stream.{tellLine, pieceListed}
+use Rattle.listing.specs.Listing.{tellLine}
+use Rattle.listing.specs.Stream.{pieceListed}
 use Rattle.listing.proofs.StreamTurns as turns
 use Rattle.listing.proofs.stream.list_piece.Statement.{statement}
 use Rattle.listing.proofs.stream.list_piece.Tie as tie
