@@ -6,6 +6,7 @@ use recording::stream::Begun;
 use recording::stream::MOST_KEPT;
 ghost use Prim.Native.Nat.{_≤_};
 ghost use lib.ListN.{length};
+ghost use Rattle.listing.specs.Listing.{mostListed};
 
 // Prints what is listed.
 fn print(out: &[u8], used: usize)
@@ -16,14 +17,16 @@ fn print(out: &[u8], used: usize)
     }
 }
 
-// Lists a piece of the input, in as many parts as the room for the output asks.
+// Lists a piece of the input, in as many parts as the room for the output asks: with room for a line, some of it is taken each time.
 fn list_all(
     piece: &[u8],
     begun: Begun,
     kept: &mut [u8; MOST_KEPT],
     table: &[u16; 256],
     out: &mut [u8],
-) -> Begun {
+) -> Begun
+    requires { ⌜ mostListed ≤ length (now out) ⌝ }
+{
     let mut stands = begun;
     let mut at: usize = 0;
     while at < piece.len() {
@@ -33,10 +36,6 @@ fn list_all(
             have: listed.have,
             number: listed.number,
         };
-        // The room is there for a line, so that some of the piece is taken.
-        if listed.taken == 0 {
-            return stands;
-        }
         at += listed.taken;
     }
     stands
@@ -49,7 +48,9 @@ fn list_more(
     kept: &mut [u8; MOST_KEPT],
     table: &[u16; 256],
     out: &mut [u8],
-) -> Begun {
+) -> Begun
+    requires { ⌜ mostListed ≤ length (now out) ⌝ }
+{
     let mut stands = begun;
     // An end that no run reaches.
     let mut turns = u64::MAX;
@@ -81,6 +82,7 @@ fn list_rest(
 )
     requires { ⌜ from ≤ to ⌝ }
     requires { ⌜ to ≤ length (now input) ⌝ }
+    requires { ⌜ mostListed ≤ length (now out) ⌝ }
 {
     let none = Begun { have: 0, number: 0 };
     let first = list_all(&input[from..to], none, kept, table, out);

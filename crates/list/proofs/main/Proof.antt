@@ -50,7 +50,7 @@ slice-aggregate-list-rest-2 c = search needs
 
 list-rest-requires : tie.Need-list-rest-requires
 list-rest-requires c κs =
-    (bounds.text-ends _ _ _ (c .before .before .before .before .before .before .before .before .before .before .before .before .read-full .ensures .0) (c .before .before .before .before .before .before .before .before .before .text-end .ensures), c .before .before .before .before .before .before .before .before .before .before .before .before .read-full .ensures .0)
+    (bounds.text-ends _ _ _ (c .before .before .before .before .before .before .before .before .before .before .before .before .read-full .ensures .0) (c .before .before .before .before .before .before .before .before .before .text-end .ensures), (c .before .before .before .before .before .before .before .before .before .before .before .before .read-full .ensures .0, search needs))
 
 enum-known-number : tie.Need-enum-known-number
 enum-known-number c = search needs
