@@ -18,7 +18,7 @@ use Rattle.recording.specs.declared.stream.Begun.{Begun}
 use Rattle.recording.specs.Pieces.{lineSize, lineEnds, toKeep}
 use Rattle.recording.specs.Stream.{nextNumber, haveOf, keptOf, lineOf, nextOf, keptBehind}
 use Rattle.recording.specs.Walk.{Told, Tell, Walk, nothing, behind, linesTold, allTold, stopped, before, nextTold, walk, pieceTold, lastTold, partsTold, piecesTold, inputTold, whole}
-use Rattle.recording.specs.Claims.{ByStart, PiecesTell, FewLines, SomeTaken}
+use Rattle.recording.specs.Claims.{mostKept, ByStart, PiecesTell, FewLines, SomeTaken}
 use Rattle.recording.proofs.Blocks as blocks
 use Rattle.recording.proofs.Ends as ends
 use Rattle.recording.proofs.Keeping as keeping
@@ -129,15 +129,15 @@ some-taken S tell most room begun kept state (x ∷ xs) enough some =
 -- How a program stands behind `part` of a line.
 pub record Stands (part : List ℕ) (begun : Begun) (kept : List ℕ) : Type 0 where
   pub goes-on : hasLf part ≡ false
-  pub room : length kept ≡ 3207
-  pub size : begun .have ≡ length (take 3207 part)
-  pub holds : take (begun .have) kept ≡ take 3207 part
+  pub room : length kept ≡ mostKept
+  pub size : begun .have ≡ length (take mostKept part)
+  pub holds : take (begun .have) kept ≡ take mostKept part
 
 -- before a line
-fresh : (begun : Begun) (kept : List ℕ) → begun .have ≡ 0 → length kept ≡ 3207 → Stands [] begun kept
+fresh : (begun : Begun) (kept : List ℕ) → begun .have ≡ 0 → length kept ≡ mostKept → Stands [] begun kept
 unfolding hasLf
 fresh begun kept none room =
-    let nil : _≡_ {A = List ℕ} (take 3207 []) [] = take-nil 3207 in
+    let nil : _≡_ {A = List ℕ} (take mostKept []) [] = take-nil mostKept in
     record {
       goes-on = refl;
       room = room;
@@ -147,7 +147,7 @@ fresh begun kept none room =
 
 module _ {part : List ℕ} {begun : Begun} {kept : List ℕ} (stands : Stands part begun kept) where
   part-none : begun .have ≡ 0 → part ≡ []
-  part-none none = none-there part (omega (arith, stands .size, length-take 3207 part))
+  part-none none = none-there part (omega (arith, stands .size, length-take mostKept part))
 
   -- what a piece has of the line, behind what is kept
   module _ (p : List ℕ) where
@@ -160,27 +160,27 @@ module _ {part : List ℕ} {begun : Begun} {kept : List ℕ} (stands : Stands pa
     size-kept : length (take (begun .have) kept) ≡ begun .have
     size-kept = ap length (stands .holds) ∙ sym (stands .size)
 
-    keeps : take (begun .have) kept ++ more ≡ take 3207 (part ++ own)
+    keeps : take (begun .have) kept ++ more ≡ take mostKept (part ++ own)
     keeps =
-        let left : length kept - begun .have ≡ 3207 - length (take 3207 part) = omega (arith, stands .room, stands .size) in
+        let left : length kept - begun .have ≡ mostKept - length (take mostKept part) = omega (arith, stands .room, stands .size) in
         ap (λ (l : List ℕ). l ++ more) (stands .holds)
-        ∙ ap (λ (k : ℕ). take 3207 part ++ take k own) left
-        ∙ sym (start-of 3207 part own)
+        ∙ ap (λ (k : ℕ). take mostKept part ++ take k own) left
+        ∙ sym (start-of mostKept part own)
 
     size-more : length (take (begun .have) kept ++ more) ≡ haveOf (begun .have) kept p
     size-more = omega (arith, length-append (take (begun .have) kept) more, size-kept)
 
-    kept-is : take (haveOf (begun .have) kept p) (keptOf (begun .have) kept p) ≡ take 3207 (part ++ own)
+    kept-is : take (haveOf (begun .have) kept p) (keptOf (begun .have) kept p) ≡ take mostKept (part ++ own)
     kept-is =
         take-at (take (begun .have) kept ++ more) (drop (begun .have + length more) kept) (haveOf (begun .have) kept p) size-more
         ∙ keeps
 
-    have-is : haveOf (begun .have) kept p ≡ length (take 3207 (part ++ own))
+    have-is : haveOf (begun .have) kept p ≡ length (take mostKept (part ++ own))
     have-is = sym size-more ∙ ap length keeps
 
-    room-is : length (keptOf (begun .have) kept p) ≡ 3207
+    room-is : length (keptOf (begun .have) kept p) ≡ mostKept
     room-is =
-        let within : begun .have ≤ length kept = omega (arith, stands .room, stands .size, length-take 3207 part) in
+        let within : begun .have ≤ length kept = omega (arith, stands .room, stands .size, length-take mostKept part) in
         writes.length-written kept more (begun .have) (keeping.kept-within (length kept) (begun .have) p within) ∙ stands .room
 
     -- the line goes on behind the piece
@@ -189,7 +189,7 @@ module _ {part : List ℕ} {begun : Begun} {kept : List ℕ} (stands : Stands pa
         let all : own ≡ p = take-all (lineSize p) p (omega (arith, blocks.no-end p none)) in
         let have : nextOf begun kept p .have ≡ haveOf (begun .have) kept p = simp none in
         let kept-now : keptBehind (begun .have) kept p ≡ keptOf (begun .have) kept p = simp none in
-        let parts : take 3207 (part ++ own) ≡ take 3207 (part ++ p) = ap (λ (l : List ℕ). take 3207 (part ++ l)) all in
+        let parts : take mostKept (part ++ own) ≡ take mostKept (part ++ p) = ap (λ (l : List ℕ). take mostKept (part ++ l)) all in
         record {
           goes-on = blocks.has-append part p ∙ simp (stands .goes-on, none);
           room = ap length kept-now ∙ room-is;
@@ -201,7 +201,7 @@ module _ {part : List ℕ} {begun : Begun} {kept : List ℕ} (stands : Stands pa
     past : hasLf p ≡ true → Stands [] (nextOf begun kept p) (keptBehind (begun .have) kept p)
     past lf = fresh (nextOf begun kept p) (keptBehind (begun .have) kept p) (simp lf) (go (hasLf p && eqb (begun .have) 0))
       where
-        go : (t : Bool) → length (cond t kept (keptOf (begun .have) kept p)) ≡ 3207
+        go : (t : Bool) → length (cond t kept (keptOf (begun .have) kept p)) ≡ mostKept
         go true = stands .room
         go false = room-is
 
@@ -291,7 +291,7 @@ module _ {S : Type 0} (tell : Tell S) (by-start : ByStart tell) where
           let own : lineOf (begun .have) kept p ≡ line = simp (eq-eqb (begun .have) 0 none) in
           ap (λ (l : List ℕ). tell (begun .number) l state) (own ∙ ap (λ (l : List ℕ). l ++ line) (sym (part-none stands none))))
           (λ (kept-some : begun .have ≡ 0 → ⊥).
-          let start : lineOf (begun .have) kept p ≡ take 3207 (part ++ line) = simp (ne-eqb (begun .have) 0 kept-some) (kept-is stands p) in
+          let start : lineOf (begun .have) kept p ≡ take mostKept (part ++ line) = simp (ne-eqb (begun .have) 0 kept-some) (kept-is stands p) in
           ap (λ (l : List ℕ). tell (begun .number) l state) start ∙ by-start (begun .number) (part ++ line) state (one-line stands p))
           (eq-or-ne (begun .have) 0)
 
@@ -422,7 +422,7 @@ module _ {S : Type 0} (tell : Tell S) (by-start : ByStart tell) where
           (λ (some : begun .have ≡ 0 → ⊥).
           let size : lineSize part ≡ length part = blocks.no-end part (stands .goes-on) in
           let over : length part ≤ lineSize part = omega arith in
-          let there : 0 < length part = omega (arith, length-take 3207 part, stands .size) in
+          let there : 0 < length part = omega (arith, length-take mostKept part, stands .size) in
           let told : Told S = tell (begun .number) part state in
           let room-there : cond (ltb room most) (nothing state) (tell (begun .number) (take (begun .have) kept) state) ≡ tell (begun .number) (take (begun .have) kept) state =
           simp (le-ltb room most enough)
