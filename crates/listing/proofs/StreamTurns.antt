@@ -25,8 +25,9 @@ use Rattle.recording.proofs.LineCases as cases
 use Rattle.listing.specs.declared.stream.Listed.{Listed}
 use Rattle.listing.specs.Listing.{lineListing, listed}
 use Rattle.listing.specs.Stream.{Walk, stopped, before, nextListing, walk, answer, lastListed, linesListed, pieceListed}
-use Rattle.listing.specs.Private.{Appended, listingOf}
-use Rattle.listing.proofs.Appending as appending
+use Rattle.printing.specs.Room.{Appended}
+use Rattle.listing.specs.Private.{listingOf}
+use Rattle.printing.proofs.Appending as appending
 use Rattle.listing.proofs.Listings as listings
 
 -- a line that is taken, by what is told of it

@@ -1,22 +1,12 @@
--- What the program builds on: fixed memory is enough for a line and for the text, and the printed digits tell the number.
--- Proved in proofs/Digits.antt and proofs/InputStart.antt.
-use Prim.Native.Nat.{ℕ, _+_, _-_, _*_, _<_, _≤_}
+-- What the program builds on: fixed memory is enough for a line and for the text. Proved in proofs/InputStart.antt.
+use Prim.Native.Nat.{ℕ, _≤_}
 use mathlib.Core.Path.{_≡_}
-use mathlib.Core.List.{List, [], _∷_}
+use mathlib.Core.List.{List}
 use lib.ListN.{length, take}
 use Rattle.provisioning.specs.Text.{Reading, taken, Entry, reading}
 use Rattle.recording.specs.Claims.{mostKept}
 use Rattle.recording.specs.Pieces.{textEnd, lineSize}
-use Rattle.listing.specs.Decimal.{decimal}
 use Rattle.listing.specs.Listing.{lineListing}
-
--- what decimal digits say, after others that say `before`
-abbrev pub valueOf : ℕ → List ℕ → ℕ
-valueOf before [] = before
-valueOf before (d ∷ ds) = valueOf (before * 10 + (d - 48)) ds
-
-abbrev pub DigitsTell : Type 0
-DigitsTell = (n : ℕ) → n < 18446744073709551616 → valueOf 0 (decimal n) ≡ n
 
 -- Of a line, which has an LF at its end alone, the first 3,207 octets decide the listing.
 abbrev pub StartDecides : Type 0
