@@ -15,9 +15,9 @@ use Rattle.recording.specs.declared.stream.Begun.{Begun}
 use Rattle.listing.specs.declared.stream.Listed.{Listed}
 use Rattle.listing.specs.Listing.{listed}
 use Rattle.recording.specs.Pieces.{textEnd}
-use Rattle.listing.specs.Stream.{pieceListed, answer, lastListed}
+use Rattle.listing.specs.Stream.{tellLine, pieceListed, answer, lastListed}
 use Rattle.recording.proofs.Ends as ends
-use Rattle.listing.proofs.StreamTurns as turns
+use Rattle.recording.proofs.Walks as walks
 
 place : (t : Bool) (end next : ℕ) → Written next ≡ cond t (NotWritten roomTooSmall) (Written end) → next ≡ end
 place true end next e = let z : _≡_ {A = ℕ} 0 1 = cc in absurd (omega arith)
@@ -70,7 +70,7 @@ module _ (room : ℕ) (table : List ℕ) (begun : Begun) (kept piece : List ℕ)
       omega (
         arith,
         ap (λ (l : Listed). l .taken) is,
-        turns.takes-within room table begun kept piece [],
+        walks.taken-within (tellLine table) 6709 (length piece) room 0 begun kept tt piece,
       )
 
   pub prints-within : (out after : List ℕ) → after ≡ written out 0 (pieceListed room table begun kept piece .text) → length after ≡ length out → r .used ≤ length after

@@ -3,6 +3,7 @@
 use octets::Put;
 use provisioning::text::TextAnswer;
 use recording::stream::Begun;
+use recording::stream::MOST_KEPT;
 ghost use Prim.Native.Nat.{_≤_};
 ghost use lib.ListN.{length};
 
@@ -19,7 +20,7 @@ fn print(out: &[u8], used: usize)
 fn list_all(
     piece: &[u8],
     begun: Begun,
-    kept: &mut [u8],
+    kept: &mut [u8; MOST_KEPT],
     table: &[u16; 256],
     out: &mut [u8],
 ) -> Begun {
@@ -45,7 +46,7 @@ fn list_all(
 fn list_more(
     input: &mut [u8],
     begun: Begun,
-    kept: &mut [u8],
+    kept: &mut [u8; MOST_KEPT],
     table: &[u16; 256],
     out: &mut [u8],
 ) -> Begun {
@@ -64,7 +65,7 @@ fn list_more(
 }
 
 // Lists a last line that lacks its LF.
-fn finish(begun: Begun, kept: &[u8], table: &[u16; 256], out: &mut [u8]) {
+fn finish(begun: Begun, kept: &[u8; MOST_KEPT], table: &[u16; 256], out: &mut [u8]) {
     let used = listing::stream::list_last(begun, kept, table, out);
     print(out, used);
 }
@@ -74,7 +75,7 @@ fn list_rest(
     input: &mut [u8],
     from: usize,
     to: usize,
-    kept: &mut [u8],
+    kept: &mut [u8; MOST_KEPT],
     table: &[u16; 256],
     out: &mut [u8],
 )
@@ -90,7 +91,7 @@ fn list_rest(
 fn main() {
     let mut input = io::large_buffer();
     let mut out = io::large_buffer();
-    let mut kept = [0u8; recording::stream::MOST_KEPT];
+    let mut kept = [0u8; MOST_KEPT];
     let mut table = [0u16; 256];
     let n = io::read_full(libc::STDIN_FILENO, &mut input);
     let end = recording::pieces::text_end(&input[..n]);

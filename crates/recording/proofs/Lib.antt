@@ -5,5 +5,6 @@ pub mod Ends
 pub mod Keeping
 pub mod LineCases
 pub mod Taking
+pub mod Walks
 pub mod LineStart
 pub mod TextStart
