@@ -16,8 +16,10 @@ use Rattle.recording.specs.Hex.{hexValue, anyOther, paired}
 use Rattle.recording.specs.Line.{lineRead}
 use Rattle.recording.specs.Pieces.{textFrom, lineSize}
 use Rattle.recording.specs.Walk.{linesTold}
-use Rattle.listing.specs.Decimal.{digits}
-use Rattle.listing.specs.Listing.{field, fourFields, subListing, subsListing, refusedListing, openedListing, lineListing, listing}
+use Rattle.printing.specs.Decimal.{digits}
+use Rattle.printing.specs.Field.{field}
+use Rattle.printing.specs.Refused.{refusedListing}
+use Rattle.listing.specs.Listing.{fourFields, subListing, subsListing, openedListing, lineListing, listing}
 
 -- lines, each with its LF
 abbrev lines : List String → List ℕ

@@ -23,7 +23,8 @@ use Rattle.recording.proofs.Walks as walks
 use Rattle.listing.specs.declared.stream.Listed.{Listed}
 use Rattle.listing.specs.Listing.{lineListing, tellLine, listed}
 use Rattle.listing.specs.Stream.{answer, lastListed}
-use Rattle.listing.specs.Private.{Appended, listingOf}
+use Rattle.printing.specs.Room.{Appended}
+use Rattle.listing.specs.Private.{listingOf}
 use Rattle.listing.proofs.Listings as listings
 
 -- a line that is taken, by what is told of it

@@ -7,7 +7,7 @@ use lib.ListN.{length, take, drop}
 use Rattle.refusal.specs.Numbers.{sound, roomTooSmall}
 use Rattle.octets.specs.declared.Put.{Put}
 use Rattle.octets.specs.declared.Put.the-variants.{Written, NotWritten}
-use Rattle.octets.specs.Text.{ascii, lf}
+use Rattle.octets.specs.Text.{ascii}
 use Rattle.frame.specs.declared.header.SubFrame.{SubFrame}
 use Rattle.frame.specs.Opening.{Opening, opening}
 use Rattle.record.specs.Record.{foundAt}
@@ -17,11 +17,8 @@ use Rattle.recording.specs.Line.{Held, octets, lineRead}
 use Rattle.recording.specs.Line.{refused as refusedLine}
 use Rattle.recording.specs.Pieces.{textEnd}
 use Rattle.recording.specs.Walk.{Tell, allTold}
-use Rattle.listing.specs.Decimal.{decimal}
-
--- A field on its line: its name with `=`, a number, LF.
-unfoldable pub field : List ℕ → ℕ → List ℕ
-field name n = name ++ (decimal n ++ lf ∷ [])
+use Rattle.printing.specs.Field.{field}
+use Rattle.printing.specs.Refused.{refusedListing, textListing}
 
 -- "then CID, type, payload octets and refusal (0 none) of each"
 unfoldable pub fourFields : ℕ → ℕ → ℕ → ℕ → List ℕ
@@ -40,10 +37,6 @@ unfoldable pub subsListing : List ℕ → List ℕ → List SubFrame → List �
 subsListing table s [] = []
 subsListing table s (sub ∷ subs) = subListing table s sub ++ subsListing table s subs
 
--- "A refused frame prints `frame=`, `refused=`, `at=`"
-unfoldable pub refusedListing : ℕ → ℕ → ℕ → List ℕ
-refusedListing n number at = field (ascii "frame=") n ++ field (ascii "refused=") number ++ field (ascii "at=") at
-
 unfoldable pub openedListing : ℕ → List ℕ → List ℕ → Opening → List ℕ
 openedListing n table s o =
     cond (eqb (o .number) sound)
@@ -61,10 +54,6 @@ readListing n table (refusedLine number) = refusedListing n number 0
 -- A line that has the number n.
 unfoldable pub lineListing : ℕ → List ℕ → List ℕ → List ℕ
 lineListing n table line = readListing n table (lineRead line)
-
--- "refused text prints `text=`, `line=` and stops"
-unfoldable pub textListing : ℕ → ℕ → List ℕ
-textListing number line = field (ascii "text=") number ++ field (ascii "line=") line
 
 -- what the program tells of a line; from line to line no state goes on
 abbrev pub tellLine : List ℕ → Tell (Unit {0})

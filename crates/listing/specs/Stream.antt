@@ -7,8 +7,9 @@ use Rattle.provisioning.specs.Text.{Reading, refused, taken, reading, tableOf}
 use Rattle.recording.specs.declared.stream.Begun.{Begun}
 use Rattle.recording.specs.Pieces.{textEnd}
 use Rattle.recording.specs.Walk.{Walk, pieceTold, lastTold, inputTold}
+use Rattle.printing.specs.Refused.{textListing}
 use Rattle.listing.specs.declared.stream.Listed.{Listed}
-use Rattle.listing.specs.Listing.{tellLine, textListing, mostListed}
+use Rattle.listing.specs.Listing.{tellLine, mostListed}
 
 abbrev pub pieceListed : ℕ → List ℕ → Begun → List ℕ → List ℕ → Walk (Unit {0})
 pieceListed room table begun kept piece = pieceTold (tellLine table) mostListed room begun kept tt piece

@@ -10,8 +10,9 @@ ghost use mathlib.Core.Bool.{cond};
 ghost use Prim.Native.Nat.{_+_, _≤_};
 ghost use lib.ListN.{length};
 ghost use Rattle.octets.specs.Room.{written};
-ghost use Rattle.listing.specs.Private.{Appended, listingOf};
+ghost use Rattle.listing.specs.Private.{listingOf};
 ghost use Rattle.listing.specs.Stream.{pieceListed, answer, lastListed};
+ghost use Rattle.printing.specs.Room.{Appended};
 
 // What listing a piece does: the octets taken of it, the octets listed, and how it stands then.
 pub struct Listed {
