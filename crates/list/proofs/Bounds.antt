@@ -1,5 +1,5 @@
 -- Where a text and a listing end, and what a listing takes of a piece.
-use Prim.Native.Nat.{ℕ, _+_, _-_, _≤_}
+use Prim.Native.Nat.{ℕ, _+_, _-_, _<_, _≤_}
 use mathlib.Core.Path.{_≡_, sym, ap, _∙_}
 use mathlib.Core.Bool.{Bool, true, false, cond}
 use mathlib.Core.List.{List, [], _++_}
@@ -13,11 +13,12 @@ use Rattle.octets.specs.declared.Put.the-variants.{Written, NotWritten}
 use Rattle.octets.specs.Room.{written, leftBy}
 use Rattle.recording.specs.declared.stream.Begun.{Begun}
 use Rattle.listing.specs.declared.stream.Listed.{Listed}
-use Rattle.listing.specs.Listing.{listed}
+use Rattle.listing.specs.Listing.{tellLine, mostListed, listed}
 use Rattle.recording.specs.Pieces.{textEnd}
 use Rattle.listing.specs.Stream.{pieceListed, answer, lastListed}
 use Rattle.recording.proofs.Ends as ends
-use Rattle.listing.proofs.StreamTurns as turns
+use Rattle.recording.proofs.Walks as walks
+use Rattle.recording.proofs.Joins as joins
 
 place : (t : Bool) (end next : ℕ) → Written next ≡ cond t (NotWritten roomTooSmall) (Written end) → next ≡ end
 place true end next e = let z : _≡_ {A = ℕ} 0 1 = cc in absurd (omega arith)
@@ -70,7 +71,15 @@ module _ (room : ℕ) (table : List ℕ) (begun : Begun) (kept piece : List ℕ)
       omega (
         arith,
         ap (λ (l : Listed). l .taken) is,
-        turns.takes-within room table begun kept piece [],
+        walks.taken-within (tellLine table) 6709 (length piece) room 0 begun kept tt piece,
+      )
+
+  pub takes-some : mostListed ≤ room → 0 < length piece → 0 < r .taken
+  takes-some enough some =
+      omega (
+        arith,
+        ap (λ (l : Listed). l .taken) is,
+        joins.some-taken (Unit {0}) (tellLine table) 6709 room begun kept tt piece enough some,
       )
 
   pub prints-within : (out after : List ℕ) → after ≡ written out 0 (pieceListed room table begun kept piece .text) → length after ≡ length out → r .used ≤ length after

@@ -3,8 +3,10 @@
 use octets::Put;
 use provisioning::text::TextAnswer;
 use recording::stream::Begun;
+use recording::stream::MOST_KEPT;
 ghost use Prim.Native.Nat.{_≤_};
 ghost use lib.ListN.{length};
+ghost use Rattle.listing.specs.Listing.{mostListed};
 
 // Prints what is listed.
 fn print(out: &[u8], used: usize)
@@ -15,14 +17,16 @@ fn print(out: &[u8], used: usize)
     }
 }
 
-// Lists a piece of the input, in as many parts as the room for the output asks.
+// Lists a piece of the input, in as many parts as the room for the output asks: with room for a line, some of it is taken each time.
 fn list_all(
     piece: &[u8],
     begun: Begun,
-    kept: &mut [u8],
+    kept: &mut [u8; MOST_KEPT],
     table: &[u16; 256],
     out: &mut [u8],
-) -> Begun {
+) -> Begun
+    requires { ⌜ mostListed ≤ length (now out) ⌝ }
+{
     let mut stands = begun;
     let mut at: usize = 0;
     while at < piece.len() {
@@ -32,10 +36,6 @@ fn list_all(
             have: listed.have,
             number: listed.number,
         };
-        // The room is there for a line, so that some of the piece is taken.
-        if listed.taken == 0 {
-            return stands;
-        }
         at += listed.taken;
     }
     stands
@@ -45,10 +45,12 @@ fn list_all(
 fn list_more(
     input: &mut [u8],
     begun: Begun,
-    kept: &mut [u8],
+    kept: &mut [u8; MOST_KEPT],
     table: &[u16; 256],
     out: &mut [u8],
-) -> Begun {
+) -> Begun
+    requires { ⌜ mostListed ≤ length (now out) ⌝ }
+{
     let mut stands = begun;
     // An end that no run reaches.
     let mut turns = u64::MAX;
@@ -64,7 +66,7 @@ fn list_more(
 }
 
 // Lists a last line that lacks its LF.
-fn finish(begun: Begun, kept: &[u8], table: &[u16; 256], out: &mut [u8]) {
+fn finish(begun: Begun, kept: &[u8; MOST_KEPT], table: &[u16; 256], out: &mut [u8]) {
     let used = listing::stream::list_last(begun, kept, table, out);
     print(out, used);
 }
@@ -74,12 +76,13 @@ fn list_rest(
     input: &mut [u8],
     from: usize,
     to: usize,
-    kept: &mut [u8],
+    kept: &mut [u8; MOST_KEPT],
     table: &[u16; 256],
     out: &mut [u8],
 )
     requires { ⌜ from ≤ to ⌝ }
     requires { ⌜ to ≤ length (now input) ⌝ }
+    requires { ⌜ mostListed ≤ length (now out) ⌝ }
 {
     let none = Begun { have: 0, number: 0 };
     let first = list_all(&input[from..to], none, kept, table, out);
@@ -90,7 +93,7 @@ fn list_rest(
 fn main() {
     let mut input = io::large_buffer();
     let mut out = io::large_buffer();
-    let mut kept = [0u8; recording::stream::MOST_KEPT];
+    let mut kept = [0u8; MOST_KEPT];
     let mut table = [0u16; 256];
     let n = io::read_full(libc::STDIN_FILENO, &mut input);
     let end = recording::pieces::text_end(&input[..n]);

@@ -15,8 +15,11 @@ use Rattle.digits.specs.Layout.{digitsRead}
 use Rattle.recording.specs.Hex.{hexValue, anyOther, paired}
 use Rattle.recording.specs.Line.{lineRead}
 use Rattle.recording.specs.Pieces.{textFrom, lineSize}
-use Rattle.listing.specs.Decimal.{digits}
-use Rattle.listing.specs.Listing.{field, fourFields, subListing, subsListing, refusedListing, openedListing, lineListing, linesListing, listing}
+use Rattle.recording.specs.Walk.{linesTold}
+use Rattle.printing.specs.Decimal.{digits}
+use Rattle.printing.specs.Field.{field}
+use Rattle.printing.specs.Refused.{refusedListing}
+use Rattle.listing.specs.Listing.{fourFields, subListing, subsListing, openedListing, lineListing, listing}
 
 -- lines, each with its LF
 abbrev lines : List String → List ℕ
@@ -32,5 +35,5 @@ printed =
     ("frame=0" ∷ "subs=2" ∷ "cid=5" ∷ "type=1" ∷ "len=8" ∷ "answer=0" ∷ "cid=6" ∷ "type=0" ∷ "len=1" ∷ "answer=11" ∷ [])
 
 pub lists : listing input ≡ printed
-unfolding input printed listing linesListing lineListing openedListing refusedListing subsListing subListing fourFields field digits lineRead anyOther paired hexValue textFrom lineSize reading walk lineBy valueLine numberBy secondDigit thirdDigit digitOf wordAmong starts hasLf opening scanned scan headerAt told foundAt meaning packed syntaxAt onVoice onFax onData digitsRead
+unfolding input printed listing linesTold lineListing openedListing refusedListing subsListing subListing fourFields field digits lineRead anyOther paired hexValue textFrom lineSize reading walk lineBy valueLine numberBy secondDigit thirdDigit digitOf wordAmong starts hasLf opening scanned scan headerAt told foundAt meaning packed syntaxAt onVoice onFax onData digitsRead
 lists = refl

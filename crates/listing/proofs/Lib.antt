@@ -1,9 +1,7 @@
-pub mod Spelling
-pub mod Appending
 pub mod Chain
 pub mod Listings
 pub mod SubsTurns
 pub mod StreamTurns
-pub mod Digits
 pub mod InputStart
+pub mod Pieces
 pub mod Examples

@@ -22,8 +22,11 @@ use Rattle.payload.specs.Content.{payloadRead, numberOf}
 use Rattle.octets.specs.Text.{ascii}
 use Rattle.recording.specs.declared.line.Read.{Read}
 use Rattle.recording.specs.Line.{Held, octets, refused, lineRead, inRoom, readOf, octetsOf}
-use Rattle.listing.specs.Listing.{fourFields, numberFor, subListing, subsListing, refusedListing, openedListing, frameListing, readListing, lineListing, field, listed}
-use Rattle.listing.specs.Private.{Appended, listingOf}
+use Rattle.listing.specs.Listing.{fourFields, numberFor, subListing, subsListing, openedListing, frameListing, readListing, lineListing, listed}
+use Rattle.printing.specs.Field.{field}
+use Rattle.printing.specs.Refused.{refusedListing}
+use Rattle.printing.specs.Room.{Appended}
+use Rattle.listing.specs.Private.{listingOf}
 
 -- a sub-frame, by the refusal number that its payload gets
 module _ {before after : List ℕ} {at next : ℕ} where

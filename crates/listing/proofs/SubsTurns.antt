@@ -12,8 +12,8 @@ use Rattle.frame.specs.Header.{headerAt, subAt}
 use Rattle.frame.specs.Opening.{endOf, opening}
 use Rattle.frame.proofs.HeaderInverse as inverse
 use Rattle.listing.specs.Listing.{subListing, subsListing}
-use Rattle.listing.specs.Private.{Appended}
-use Rattle.listing.proofs.Appending as appending
+use Rattle.printing.specs.Room.{Appended}
+use Rattle.printing.proofs.Appending as appending
 use Rattle.listing.proofs.Chain as chain
 use Rattle.listing.proofs.Listings as listings
 use Rattle.recording.proofs.Keeping as keeping

@@ -1,22 +1,16 @@
--- What the program builds on: fixed memory is enough for a line and for the text, and the printed digits tell the number.
--- Proved in proofs/Digits.antt and proofs/InputStart.antt.
-use Prim.Native.Nat.{ℕ, _+_, _-_, _*_, _<_, _≤_}
+-- What the program builds on: fixed memory is enough for a line and for the text, and the pieces print the whole input's
+-- listing. Proved in proofs/InputStart.antt and proofs/Pieces.antt.
+use Prim.Native.Nat.{ℕ, _<_, _≤_}
 use mathlib.Core.Path.{_≡_}
-use mathlib.Core.List.{List, [], _∷_}
-use lib.ListN.{length, take}
+use mathlib.Core.List.{List, [], _++_}
+use mathlib.Core.Logic.{_⊎_}
+use lib.ListN.{length, take, drop}
 use Rattle.provisioning.specs.Text.{Reading, taken, Entry, reading}
 use Rattle.recording.specs.Claims.{mostKept}
-use Rattle.recording.specs.Pieces.{textEnd, lineSize}
-use Rattle.listing.specs.Decimal.{decimal}
-use Rattle.listing.specs.Listing.{lineListing}
-
--- what decimal digits say, after others that say `before`
-abbrev pub valueOf : ℕ → List ℕ → ℕ
-valueOf before [] = before
-valueOf before (d ∷ ds) = valueOf (before * 10 + (d - 48)) ds
-
-abbrev pub DigitsTell : Type 0
-DigitsTell = (n : ℕ) → n < 18446744073709551616 → valueOf 0 (decimal n) ≡ n
+use Rattle.recording.specs.Pieces.{textEnd, lineSize, lineEnds}
+use Rattle.recording.specs.Walk.{whole}
+use Rattle.listing.specs.Listing.{lineListing, listing, mostListed}
+use Rattle.listing.specs.Stream.{piecesListed}
 
 -- Of a line, which has an LF at its end alone, the first 3,207 octets decide the listing.
 abbrev pub StartDecides : Type 0
@@ -36,3 +30,14 @@ FirstPieceDecides = (input : List ℕ) (n : ℕ) → 8198 ≤ n → textRead (ta
 abbrev pub FirstPieceEnds : Type 0
 FirstPieceEnds =
     (input : List ℕ) (n : ℕ) (es : List Entry) → 8198 ≤ n → textRead input ≡ taken es → textEnd (take n input) ≡ textEnd input
+
+-- However the input is cut into pieces, what is printed over them is its listing, where the first has 8,198 octets or is all there
+-- is. The room is there for a line's listing; the frame numbers stay below 2^64.
+abbrev pub PiecesList : Type 0
+PiecesList =
+    (room : ℕ) (kept first : List ℕ) (pieces : List (List ℕ))
+    → mostListed ≤ room
+    → length kept ≡ mostKept
+    → (8198 ≤ length first) ⊎ (whole pieces ≡ [])
+    → lineEnds (drop (textEnd (first ++ whole pieces)) (first ++ whole pieces)) < 18446744073709551616
+    → piecesListed room kept first pieces ≡ listing (first ++ whole pieces)

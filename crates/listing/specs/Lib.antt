@@ -1,4 +1,3 @@
-pub mod Decimal
 pub mod Listing
 pub mod Stream
 pub mod Claims

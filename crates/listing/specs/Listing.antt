@@ -1,5 +1,5 @@
 -- The listing (document 01, "Listing program"), as octets.
-use Prim.Native.Nat.{ℕ, zero, suc, _+_}
+use Prim.Native.Nat.{ℕ, _+_}
 use mathlib.Core.List.{List, [], _∷_, _++_}
 use mathlib.Core.Bool.{cond}
 use lib.Dec.{ltb, eqb}
@@ -7,7 +7,7 @@ use lib.ListN.{length, take, drop}
 use Rattle.refusal.specs.Numbers.{sound, roomTooSmall}
 use Rattle.octets.specs.declared.Put.{Put}
 use Rattle.octets.specs.declared.Put.the-variants.{Written, NotWritten}
-use Rattle.octets.specs.Text.{ascii, lf}
+use Rattle.octets.specs.Text.{ascii}
 use Rattle.frame.specs.declared.header.SubFrame.{SubFrame}
 use Rattle.frame.specs.Opening.{Opening, opening}
 use Rattle.record.specs.Record.{foundAt}
@@ -15,12 +15,10 @@ use Rattle.provisioning.specs.Text.{Reading, refused, taken, reading, tableOf}
 use Rattle.payload.specs.Content.{payloadRead, numberOf}
 use Rattle.recording.specs.Line.{Held, octets, lineRead}
 use Rattle.recording.specs.Line.{refused as refusedLine}
-use Rattle.recording.specs.Pieces.{lineSize, textEnd}
-use Rattle.listing.specs.Decimal.{decimal}
-
--- A field on its line: its name with `=`, a number, LF.
-unfoldable pub field : List ℕ → ℕ → List ℕ
-field name n = name ++ (decimal n ++ lf ∷ [])
+use Rattle.recording.specs.Pieces.{textEnd}
+use Rattle.recording.specs.Walk.{Tell, allTold}
+use Rattle.printing.specs.Field.{field}
+use Rattle.printing.specs.Refused.{refusedListing, textListing}
 
 -- "then CID, type, payload octets and refusal (0 none) of each"
 unfoldable pub fourFields : ℕ → ℕ → ℕ → ℕ → List ℕ
@@ -38,10 +36,6 @@ subListing table s sub = fourFields (sub .cid) (sub .ptype) (sub .len) (numberFo
 unfoldable pub subsListing : List ℕ → List ℕ → List SubFrame → List ℕ
 subsListing table s [] = []
 subsListing table s (sub ∷ subs) = subListing table s sub ++ subsListing table s subs
-
--- "A refused frame prints `frame=`, `refused=`, `at=`"
-unfoldable pub refusedListing : ℕ → ℕ → ℕ → List ℕ
-refusedListing n number at = field (ascii "frame=") n ++ field (ascii "refused=") number ++ field (ascii "at=") at
 
 unfoldable pub openedListing : ℕ → List ℕ → List ℕ → Opening → List ℕ
 openedListing n table s o =
@@ -61,24 +55,15 @@ readListing n table (refusedLine number) = refusedListing n number 0
 unfoldable pub lineListing : ℕ → List ℕ → List ℕ → List ℕ
 lineListing n table line = readListing n table (lineRead line)
 
--- "refused text prints `text=`, `line=` and stops"
-unfoldable pub textListing : ℕ → ℕ → List ℕ
-textListing number line = field (ascii "text=") number ++ field (ascii "line=") line
-
--- The lines of s from number n on. Each has an octet, so that `room`, not below the octets, is enough.
-unfoldable pub linesListing : ℕ → ℕ → List ℕ → List ℕ → List ℕ
-linesListing zero n table s = []
-linesListing (suc room) n table [] = []
-linesListing (suc room) n table (x ∷ xs) =
-    let size = lineSize (x ∷ xs) in
-    lineListing n table (take size (x ∷ xs)) ++ linesListing room (n + 1) table (drop size (x ∷ xs))
+-- what the program tells of a line; from line to line no state goes on
+abbrev pub tellLine : List ℕ → Tell (Unit {0})
+tellLine table n line state = record { text = lineListing n table line; state = state }
 
 abbrev pub afterText : Reading → List ℕ → List ℕ
 afterText (refused number line) rest = textListing number line
-afterText (taken es) rest = linesListing (length rest) 0 (tableOf es) rest
+afterText (taken es) rest = allTold (tellLine (tableOf es)) tt rest .text
 
--- What is printed for a whole input. The code prints it piece by piece (Stream.antt); that the pieces join to this is compared, not
--- proved.
+-- What is printed for a whole input. The code prints it piece by piece (Stream.antt): `PiecesList` (Claims.antt).
 unfoldable pub listing : List ℕ → List ℕ
 listing input = afterText (reading (take (textEnd input) input)) (drop (textEnd input) input)
 

@@ -1,29 +1,29 @@
 // The listing of a line, and of a refused text (document 01, "Listing program").
-use crate::field::put_field;
-use crate::field::put_small_field;
 use frame::header::SubFrame;
 use octets::Put;
+use printing::field::put_field;
+use printing::refused::put_refused;
 use recording::line::Read;
 ghost use mathlib.Core.Path.{_≡_};
-ghost use Prim.Native.Nat.{_+_, _<_, _≤_};
+ghost use Prim.Native.Nat.{_+_, _≤_};
 ghost use lib.ListN.{length};
 ghost use Rattle.octets.specs.Room.{leftBy};
 ghost use Rattle.frame.specs.Opening.{endOf, opening};
-ghost use Rattle.listing.specs.Listing.{fourFields, subListing, subsListing, refusedListing, frameListing, lineListing, textListing, listed};
-ghost use Rattle.listing.specs.Private.{Appended, listingOf};
+ghost use Rattle.listing.specs.Listing.{fourFields, subListing, subsListing, frameListing, lineListing, listed};
+ghost use Rattle.listing.specs.Private.{listingOf};
+ghost use Rattle.printing.specs.Room.{Appended};
 
 // The room that is asked for a listing: 27 octets for `frame=`, 26 for `subs=`, 104 for each of 64 sub-frames.
 pub const MOST_LISTED: usize = 6709;
 
 fn put_four(out: &mut [u8], at: usize, cid: u8, ptype: u8, len: usize, number: u8) -> usize
-    requires { ⌜ len < 10000 ⌝ }
     requires { ⌜ at + 104 ≤ length (now out) ⌝ }
     ensures { λ r. ⌜ Appended (now (out .entry)) at (fourFields cid ptype len number) 104 (now (out .exit)) r ⌝ }
 {
-    let past_cid = put_small_field(out, at, b"cid=", cid as u64);
-    let past_type = put_small_field(out, past_cid, b"type=", ptype as u64);
-    let past_len = put_small_field(out, past_type, b"len=", len as u64);
-    put_small_field(out, past_len, b"answer=", number as u64)
+    let past_cid = put_field(out, at, b"cid=", cid as u64);
+    let past_type = put_field(out, past_cid, b"type=", ptype as u64);
+    let past_len = put_field(out, past_type, b"len=", len as u64);
+    put_field(out, past_len, b"answer=", number as u64)
 }
 
 // A sub-frame of the frame.
@@ -59,17 +59,6 @@ fn put_subs(out: &mut [u8], at: usize, table: &[u16; 256], frame: &[u8], count: 
     next
 }
 
-// A refused frame, or a line that holds none.
-fn put_refused(out: &mut [u8], at: usize, n: u64, number: u8, place: usize) -> usize
-    requires { ⌜ place < 10000 ⌝ }
-    requires { ⌜ at + 80 ≤ length (now out) ⌝ }
-    ensures { λ r. ⌜ Appended (now (out .entry)) at (refusedListing n number place) 80 (now (out .exit)) r ⌝ }
-{
-    let past_frame = put_field(out, at, b"frame=", n);
-    let past_number = put_small_field(out, past_frame, b"refused=", number as u64);
-    put_small_field(out, past_number, b"at=", place as u64)
-}
-
 // A frame, as the frame number n.
 fn put_frame(out: &mut [u8], at: usize, n: u64, table: &[u16; 256], frame: &[u8]) -> usize
     requires { ⌜ at + 6709 ≤ length (now out) ⌝ }
@@ -81,7 +70,7 @@ fn put_frame(out: &mut [u8], at: usize, n: u64, table: &[u16; 256], frame: &[u8]
     if number == refusal::SOUND {
         let past_frame = put_field(out, at, b"frame=", n);
         let count = checked.count;
-        let past_subs = put_small_field(out, past_frame, b"subs=", count as u64);
+        let past_subs = put_field(out, past_frame, b"subs=", count as u64);
         return put_subs(out, past_subs, table, frame, count);
     }
     put_refused(out, at, n, number, checked.at)
@@ -120,17 +109,4 @@ pub(crate) fn list_line(out: &mut [u8], at: usize, n: u64, table: &[u16; 256], l
     let mut frame = [0u8; 1600];
     let read = recording::line::read_line(line, &mut frame);
     Put::Written(put_read(out, at, n, table, read, &frame))
-}
-
-// Lists a refused text, by its refusal number and line, into room from a place on.
-pub fn list_text(out: &mut [u8], at: usize, number: u8, line: usize) -> Put
-    ensures answer { λ r. ⌜ r ≡ listed (now (out .entry)) at (textListing number line) ⌝ }
-    ensures holds { λ r. ⌜ now (out .exit) ≡ leftBy r (now (out .entry)) at (textListing number line) ⌝ }
-{
-    if octets::exceeds(out.len(), at, MOST_LISTED) {
-        return Put::NotWritten(refusal::ROOM_TOO_SMALL);
-    }
-    let past_text = put_field(out, at, b"text=", number as u64);
-    let past_line = put_field(out, past_text, b"line=", line as u64);
-    Put::Written(past_line)
 }

@@ -10,8 +10,9 @@ ghost use mathlib.Core.Bool.{cond};
 ghost use Prim.Native.Nat.{_+_, _≤_};
 ghost use lib.ListN.{length};
 ghost use Rattle.octets.specs.Room.{written};
-ghost use Rattle.listing.specs.Private.{Appended, listingOf};
-ghost use Rattle.listing.specs.Stream.{linesListed, pieceListed, answer, lastListed};
+ghost use Rattle.listing.specs.Private.{listingOf};
+ghost use Rattle.listing.specs.Stream.{pieceListed, answer, lastListed};
+ghost use Rattle.printing.specs.Room.{Appended};
 
 // What listing a piece does: the octets taken of it, the octets listed, and how it stands then.
 pub struct Listed {
@@ -44,16 +45,16 @@ fn put_taken(
 
 // Lists the lines of a piece, to its end or to where the room for a listing runs short. What it has of a line that goes on is
 // kept.
-fn list_lines(
+pub fn list_piece(
     piece: &[u8],
     begun: Begun,
-    kept: &mut [u8],
+    kept: &mut [u8; MOST_KEPT],
     table: &[u16; 256],
     out: &mut [u8],
 ) -> Listed
-    ensures says { λ r. ⌜ r ≡ answer (linesListed (length (now (out .entry))) (now (table .entry)) begun (now (kept .entry)) (now (piece .entry))) ⌝ }
-    ensures keeps { λ r. ⌜ now (kept .exit) ≡ linesListed (length (now (out .entry))) (now (table .entry)) begun (now (kept .entry)) (now (piece .entry)) .kept ⌝ }
-    ensures holds { λ r. ⌜ now (out .exit) ≡ written (now (out .entry)) 0 (linesListed (length (now (out .entry))) (now (table .entry)) begun (now (kept .entry)) (now (piece .entry)) .text) ⌝ }
+    ensures says { λ r. ⌜ r ≡ answer (pieceListed (length (now (out .entry))) (now (table .entry)) begun (now (kept .entry)) (now (piece .entry))) ⌝ }
+    ensures keeps { λ r. ⌜ now (kept .exit) ≡ pieceListed (length (now (out .entry))) (now (table .entry)) begun (now (kept .entry)) (now (piece .entry)) .kept ⌝ }
+    ensures holds { λ r. ⌜ now (out .exit) ≡ written (now (out .entry)) 0 (pieceListed (length (now (out .entry))) (now (table .entry)) begun (now (kept .entry)) (now (piece .entry)) .text) ⌝ }
 {
     let mut stands = begun;
     let mut used: usize = 0;
@@ -82,31 +83,8 @@ fn list_lines(
     }
 }
 
-// The same, where `kept` has room for MOST_KEPT octets; with less room nothing is taken.
-pub fn list_piece(
-    piece: &[u8],
-    begun: Begun,
-    kept: &mut [u8],
-    table: &[u16; 256],
-    out: &mut [u8],
-) -> Listed
-    ensures says { λ r. ⌜ r ≡ answer (pieceListed (length (now (out .entry))) (now (table .entry)) begun (now (kept .entry)) (now (piece .entry))) ⌝ }
-    ensures keeps { λ r. ⌜ now (kept .exit) ≡ pieceListed (length (now (out .entry))) (now (table .entry)) begun (now (kept .entry)) (now (piece .entry)) .kept ⌝ }
-    ensures holds { λ r. ⌜ now (out .exit) ≡ written (now (out .entry)) 0 (pieceListed (length (now (out .entry))) (now (table .entry)) begun (now (kept .entry)) (now (piece .entry)) .text) ⌝ }
-{
-    if kept.len() < MOST_KEPT {
-        return Listed {
-            taken: 0,
-            used: 0,
-            have: begun.have,
-            number: begun.number,
-        };
-    }
-    list_lines(piece, begun, kept, table, out)
-}
-
 // Lists a last line that lacks its LF, and answers how many octets are listed: none where there is no such line, or no room.
-pub fn list_last(begun: Begun, kept: &[u8], table: &[u16; 256], out: &mut [u8]) -> usize
+pub fn list_last(begun: Begun, kept: &[u8; MOST_KEPT], table: &[u16; 256], out: &mut [u8]) -> usize
     ensures says { λ r. ⌜ r ≡ length (lastListed (length (now (out .entry))) (now (table .entry)) begun (now (kept .entry))) ⌝ }
     ensures holds { λ r. ⌜ now (out .exit) ≡ written (now (out .entry)) 0 (lastListed (length (now (out .entry))) (now (table .entry)) begun (now (kept .entry))) ⌝ }
 {
@@ -114,8 +92,9 @@ pub fn list_last(begun: Begun, kept: &[u8], table: &[u16; 256], out: &mut [u8]) 
     if have == 0 {
         return 0;
     }
-    let end = octets::least(have, kept.len());
-    match crate::listing::list_line(out, 0, begun.number, table, &kept[..end]) {
+    let room: &[u8] = kept;
+    let end = octets::least(have, room.len());
+    match crate::listing::list_line(out, 0, begun.number, table, &room[..end]) {
         Put::Written(next) => next,
         Put::NotWritten(_) => 0,
     }

@@ -14,7 +14,7 @@ use Rattle.octets.specs.Text.{hasLf}
 use Rattle.octets.proofs.Texts as texts
 use Rattle.recording.specs.Pieces.{lineSize}
 
-has-append : (xs ys : List ℕ) → hasLf (xs ++ ys) ≡ (hasLf xs or hasLf ys)
+pub has-append : (xs ys : List ℕ) → hasLf (xs ++ ys) ≡ (hasLf xs or hasLf ys)
 unfolding hasLf
 has-append [] ys = refl
 has-append (x ∷ xs) ys = go (eqb x 10) (has-append xs ys)

@@ -5,5 +5,7 @@ pub mod Ends
 pub mod Keeping
 pub mod LineCases
 pub mod Taking
+pub mod Walks
+pub mod Joins
 pub mod LineStart
 pub mod TextStart

@@ -2,4 +2,5 @@ pub mod Hex
 pub mod Pieces
 pub mod Line
 pub mod Stream
+pub mod Walk
 pub mod Claims

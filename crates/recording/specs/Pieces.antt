@@ -25,6 +25,11 @@ unfoldable pub lineSize : List ℕ → ℕ
 lineSize [] = 0
 lineSize (x ∷ xs) = cond (eqb x lf) 1 (suc (lineSize xs))
 
+-- how many lines end in s
+unfoldable pub lineEnds : List ℕ → ℕ
+lineEnds [] = 0
+lineEnds (x ∷ xs) = cond (eqb x lf) (suc (lineEnds xs)) (lineEnds xs)
+
 -- the line that s starts with: its octets, and whether it ends
 abbrev pub lineEnd : List ℕ → Line
 lineEnd s = record { size = lineSize s; whole = hasLf s }

@@ -37,7 +37,7 @@ fn after(number: u64) -> u64
 
 // Takes the line that a piece starts or goes on with. The octets of its frame stand at the start of `frame` where it is whole; where
 // it goes on, what the piece has of it is kept.
-pub fn take_line(piece: &[u8], begun: Begun, kept: &mut [u8], frame: &mut [u8]) -> Taken
+pub fn take_line(piece: &[u8], begun: Begun, kept: &mut [u8; MOST_KEPT], frame: &mut [u8]) -> Taken
     ensures says { λ r. ⌜ r ≡ taken (length (now (frame .entry))) begun (now (kept .entry)) (now (piece .entry)) ⌝ }
     ensures keeps { λ r. ⌜ now (kept .exit) ≡ keptBehind (begun .have) (now (kept .entry)) (now (piece .entry)) ⌝ }
     ensures holds { λ r. ⌜ now (frame .exit) ≡ written (now (frame .entry)) 0 (octetsOf (heldBy (length (now (frame .entry))) (begun .have) (now (kept .entry)) (now (piece .entry)))) ⌝ }
@@ -62,8 +62,9 @@ pub fn take_line(piece: &[u8], begun: Begun, kept: &mut [u8], frame: &mut [u8]) 
     }
     let line = crate::pieces::keep(kept, have, piece);
     if line.whole {
-        let end = octets::least(line.have, kept.len());
-        let read = crate::line::read_line(&kept[..end], frame);
+        let room: &[u8] = kept;
+        let end = octets::least(line.have, room.len());
+        let read = crate::line::read_line(&room[..end], frame);
         let next = Begun {
             have: 0,
             number: after(begun.number),

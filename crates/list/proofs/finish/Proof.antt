@@ -10,7 +10,7 @@ list-last-requires c κs = search needs
 
 print-requires : tie.Need-print-requires
 print-requires c κs =
-    let a = c .before .before .before .before .before .before .before .args in
+    let a = c .before .before .before .before .before .before .args in
     let last = c .before .before .before .list-last in
     bounds.last-within (length (a .out .now)) (a .table .now) (a .begun) (a .kept .now) (a .out .now) _ _ (last .ensures .0) (last .ensures .1) (search needs)
 

@@ -9,7 +9,7 @@ use Rattle.list.proofs.list_all.Statement.{statement}
 use Rattle.list.proofs.list_all.Tie as tie
 
 abbrev Inv-loop : tie.InvT-loop
-Inv-loop piece kept₀ table out₀ stands₀ at₀ kept out stands at = (at ≤ length piece) × ((length kept ≡ length kept₀) × (length out ≡ length out₀))
+Inv-loop piece kept₀ table out₀ stands₀ at₀ kept out stands at = (at ≤ length piece) × (length out ≡ length out₀)
 
 abbrev μ-loop : tie.MeasureT-loop
 μ-loop piece kept₀ table out₀ stands₀ at₀ kept out stands at = length piece - at
@@ -31,43 +31,44 @@ list-piece-requires c κs = search needs
 
 print-requires : tie.Need-print-requires Inv-loop μ-loop
 print-requires c κs =
-    bounds.prints-within (length (c .before .before .before .before .before .before .before .before .before .before .loop .out)) (c .before .before .before .before .before .before .before .before .before .before .before .before .before .before .args .table .now) (c .before .before .before .before .before .before .before .before .before .before .loop .stands) (c .before .before .before .before .before .before .before .before .before .before .loop .kept) (bounds.rest (c .before .before .before .before .before .before .before .before .before .before .before .before .before .before .args .piece .now) (c .before .before .before .before .before .before .before .before .before .before .loop .at)) (c .before .before .before .before .before .list-piece .result) (c .before .before .before .before .before .list-piece .ensures .0) (c .before .before .before .before .before .before .before .before .before .before .loop .out) _ (c .before .before .before .before .before .list-piece .ensures .1 .1) (search needs)
-
-same-length : tie.Need-same-length Inv-loop μ-loop
-same-length c = search needs
-
-same-length-2 : tie.Need-same-length-2 Inv-loop μ-loop
-same-length-2 c = search needs
-
-returns : tie.Need-returns Inv-loop μ-loop
-returns c = search needs
+    let a = c .before .before .before .before .before .before .before .before .before .before .before .args in
+    let l = c .before .before .before .before .before .before .before .before .loop in
+    let piece = c .before .before .before .list-piece in
+    bounds.prints-within (length (l .out)) (a .table .now) (l .stands) (l .kept) (bounds.rest (a .piece .now) (l .at)) (piece .result) (piece .ensures .0) (l .out) _ (piece .ensures .1 .1) (search needs)
 
 add-at : tie.Need-add-at Inv-loop μ-loop
 add-at c =
-    let size = bounds.rest-size (c .before .before .before .before .before .before .before .before .before .before .before .before .before .before .before .before .before .before .args .piece .now) (c .before .before .before .before .before .before .before .before .before .before .before .before .before .before .loop .at) in
-    let takes = bounds.takes-within (length (c .before .before .before .before .before .before .before .before .before .before .before .before .before .before .loop .out)) (c .before .before .before .before .before .before .before .before .before .before .before .before .before .before .before .before .before .before .args .table .now) (c .before .before .before .before .before .before .before .before .before .before .before .before .before .before .loop .stands) (c .before .before .before .before .before .before .before .before .before .before .before .before .before .before .loop .kept) (bounds.rest (c .before .before .before .before .before .before .before .before .before .before .before .before .before .before .before .before .before .before .args .piece .now) (c .before .before .before .before .before .before .before .before .before .before .before .before .before .before .loop .at)) (c .before .before .before .before .before .before .before .before .before .list-piece .result) (c .before .before .before .before .before .before .before .before .before .list-piece .ensures .0) in
-    omega arith
+    let a = c .before .before .before .before .before .before .before .before .before .before .before .before .before .args in
+    let l = c .before .before .before .before .before .before .before .before .before .before .loop in
+    let piece = c .before .before .before .before .before .list-piece in
+    let size = bounds.rest-size (a .piece .now) (l .at) in
+    let takes = bounds.takes-within (length (l .out)) (a .table .now) (l .stands) (l .kept) (bounds.rest (a .piece .now) (l .at)) (piece .result) (piece .ensures .0) in
+    omega (arith, c .before .before .before .before .before .before .before .before .before .before .before .before .before .good .0 .0)
 
 loop-less : tie.Need-loop-less Inv-loop μ-loop
 loop-less c =
-    let size = bounds.rest-size (c .before .before .before .before .before .before .before .before .before .before .before .before .before .before .before .before .before .before .args .piece .now) (c .before .before .before .before .before .before .before .before .before .before .before .before .before .before .loop .at) in
-    let takes = bounds.takes-within (length (c .before .before .before .before .before .before .before .before .before .before .before .before .before .before .loop .out)) (c .before .before .before .before .before .before .before .before .before .before .before .before .before .before .before .before .before .before .args .table .now) (c .before .before .before .before .before .before .before .before .before .before .before .before .before .before .loop .stands) (c .before .before .before .before .before .before .before .before .before .before .before .before .before .before .loop .kept) (bounds.rest (c .before .before .before .before .before .before .before .before .before .before .before .before .before .before .before .before .before .before .args .piece .now) (c .before .before .before .before .before .before .before .before .before .before .before .before .before .before .loop .at)) (c .before .before .before .before .before .before .before .before .before .list-piece .result) (c .before .before .before .before .before .before .before .before .before .list-piece .ensures .0) in
+    let a = c .before .before .before .before .before .before .before .before .before .before .before .before .before .args in
+    let l = c .before .before .before .before .before .before .before .before .before .before .loop in
+    let piece = c .before .before .before .before .before .list-piece in
+    let size = bounds.rest-size (a .piece .now) (l .at) in
+    let takes = bounds.takes-within (length (l .out)) (a .table .now) (l .stands) (l .kept) (bounds.rest (a .piece .now) (l .at)) (piece .result) (piece .ensures .0) in
+    let some = bounds.takes-some (length (l .out)) (a .table .now) (l .stands) (l .kept) (bounds.rest (a .piece .now) (l .at)) (piece .result) (piece .ensures .0) (omega (arith, c .before .before .before .before .before .before .before .before .before .before .before .before .before .pre, l .inv .1)) (omega (arith, size, c .before .before .before .before .before .before .before .before .before .loop-test .taken)) in
     omega arith
 
 loop-again : tie.Need-loop-again Inv-loop μ-loop
 loop-again c =
-    let size = bounds.rest-size (c .before .before .before .before .before .before .before .before .before .before .before .before .before .before .before .before .before .before .args .piece .now) (c .before .before .before .before .before .before .before .before .before .before .before .before .before .before .loop .at) in
-    let takes = bounds.takes-within (length (c .before .before .before .before .before .before .before .before .before .before .before .before .before .before .loop .out)) (c .before .before .before .before .before .before .before .before .before .before .before .before .before .before .before .before .before .before .args .table .now) (c .before .before .before .before .before .before .before .before .before .before .before .before .before .before .loop .stands) (c .before .before .before .before .before .before .before .before .before .before .before .before .before .before .loop .kept) (bounds.rest (c .before .before .before .before .before .before .before .before .before .before .before .before .before .before .before .before .before .before .args .piece .now) (c .before .before .before .before .before .before .before .before .before .before .before .before .before .before .loop .at)) (c .before .before .before .before .before .before .before .before .before .list-piece .result) (c .before .before .before .before .before .before .before .before .before .list-piece .ensures .0) in
-    (omega arith, (omega (arith, c .before .before .before .before .before .before .before .before .before .before .before .before .before .before .loop .inv .1 .0), omega (arith, c .before .before .before .before .before .before .before .before .before .before .before .before .before .before .loop .inv .1 .1)))
+    let a = c .before .before .before .before .before .before .before .before .before .before .before .before .before .args in
+    let l = c .before .before .before .before .before .before .before .before .before .before .loop in
+    let piece = c .before .before .before .before .before .list-piece in
+    let size = bounds.rest-size (a .piece .now) (l .at) in
+    let takes = bounds.takes-within (length (l .out)) (a .table .now) (l .stands) (l .kept) (bounds.rest (a .piece .now) (l .at)) (piece .result) (piece .ensures .0) in
+    (omega arith, omega (arith, l .inv .1))
 
-same-length-3 : tie.Need-same-length-3 Inv-loop μ-loop
-same-length-3 c = search needs
+same-length : tie.Need-same-length Inv-loop μ-loop
+same-length c = search needs
 
-same-length-4 : tie.Need-same-length-4 Inv-loop μ-loop
-same-length-4 c = search needs
-
-returns-2 : tie.Need-returns-2 Inv-loop μ-loop
-returns-2 c = search needs
+returns : tie.Need-returns Inv-loop μ-loop
+returns c = search needs
 
 pub list-all-spec : {M : Type 1} → statement M
 list-all-spec =
@@ -81,12 +82,8 @@ list-all-spec =
     part-list-piece-end
     list-piece-requires
     print-requires
-    same-length
-    same-length-2
-    returns
     add-at
     loop-less
     loop-again
-    same-length-3
-    same-length-4
-    returns-2)
+    same-length
+    returns)

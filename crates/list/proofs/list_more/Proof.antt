@@ -6,7 +6,7 @@ use Rattle.list.proofs.list_more.Statement.{statement}
 use Rattle.list.proofs.list_more.Tie as tie
 
 abbrev Inv-loop : tie.InvT-loop
-Inv-loop input₀ kept₀ table out₀ stands₀ turns₀ input kept out stands turns = (length input ≡ length input₀) × ((length kept ≡ length kept₀) × (length out ≡ length out₀))
+Inv-loop input₀ kept₀ table out₀ stands₀ turns₀ input kept out stands turns = (length input ≡ length input₀) × (length out ≡ length out₀)
 
 abbrev μ-loop : tie.MeasureT-loop
 μ-loop input₀ kept₀ table out₀ stands₀ turns₀ input kept out stands turns = turns
@@ -29,9 +29,6 @@ same-length c = search needs
 same-length-2 : tie.Need-same-length-2 Inv-loop μ-loop
 same-length-2 c = search needs
 
-same-length-3 : tie.Need-same-length-3 Inv-loop μ-loop
-same-length-3 c = search needs
-
 returns : tie.Need-returns Inv-loop μ-loop
 returns c = search needs
 
@@ -50,14 +47,11 @@ loop-less c = search needs
 loop-again : tie.Need-loop-again Inv-loop μ-loop
 loop-again c = search needs
 
+same-length-3 : tie.Need-same-length-3 Inv-loop μ-loop
+same-length-3 c = search needs
+
 same-length-4 : tie.Need-same-length-4 Inv-loop μ-loop
 same-length-4 c = search needs
-
-same-length-5 : tie.Need-same-length-5 Inv-loop μ-loop
-same-length-5 c = search needs
-
-same-length-6 : tie.Need-same-length-6 Inv-loop μ-loop
-same-length-6 c = search needs
 
 returns-2 : tie.Need-returns-2 Inv-loop μ-loop
 returns-2 c = search needs
@@ -74,14 +68,12 @@ list-more-spec =
     count-requires
     same-length
     same-length-2
-    same-length-3
     returns
     slice-reshare-prefix-list-all
     slice-aggregate-list-all
     list-all-requires
     loop-less
     loop-again
+    same-length-3
     same-length-4
-    same-length-5
-    same-length-6
     returns-2)

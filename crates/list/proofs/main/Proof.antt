@@ -48,12 +48,9 @@ slice-aggregate-list-rest c = search needs
 slice-aggregate-list-rest-2 : tie.Need-slice-aggregate-list-rest-2
 slice-aggregate-list-rest-2 c = search needs
 
-slice-aggregate-list-rest-3 : tie.Need-slice-aggregate-list-rest-3
-slice-aggregate-list-rest-3 c = search needs
-
 list-rest-requires : tie.Need-list-rest-requires
 list-rest-requires c κs =
-    (bounds.text-ends _ _ _ (c .before .before .before .before .before .before .before .before .before .before .before .before .read-full .ensures .0) (c .before .before .before .before .before .before .before .before .before .text-end .ensures), c .before .before .before .before .before .before .before .before .before .before .before .before .read-full .ensures .0)
+    (bounds.text-ends _ _ _ (c .before .before .before .before .before .before .before .before .before .before .before .before .read-full .ensures .0) (c .before .before .before .before .before .before .before .before .before .text-end .ensures), (c .before .before .before .before .before .before .before .before .before .before .before .before .read-full .ensures .0, search needs))
 
 enum-known-number : tie.Need-enum-known-number
 enum-known-number c = search needs
@@ -103,7 +100,6 @@ main-spec =
     enum-told
     slice-aggregate-list-rest
     slice-aggregate-list-rest-2
-    slice-aggregate-list-rest-3
     list-rest-requires
     enum-known-number
     slice-aggregate-list-text

@@ -6,7 +6,7 @@ use lib.ListN.{replicate}
 use borrow.Author.Needs.{needs}
 use Rattle.recording.specs.declared.line.Read.{Read}
 use Rattle.recording.specs.Line.{lineRead}
-use Rattle.listing.proofs.Appending as appending
+use Rattle.printing.proofs.Appending as appending
 use Rattle.listing.proofs.Listings as listings
 use Rattle.recording.proofs.LineCases as cases
 use Rattle.listing.proofs.listing.list_line.Statement.{statement}

@@ -4,7 +4,7 @@ use native.Mathlib.Omega.{arith}
 use lib.ListN.{length-take}
 use lib.Seq.{length-take-le}
 use borrow.Author.Needs.{needs}
-use Rattle.listing.proofs.Appending as appending
+use Rattle.printing.proofs.Appending as appending
 use Rattle.listing.proofs.Listings as listings
 use Rattle.listing.proofs.listing.put_read.Statement.{statement}
 use Rattle.listing.proofs.listing.put_read.Tie as tie
@@ -33,8 +33,10 @@ same-length-2 c = search needs
 
 returns-2 : tie.Need-returns-2
 returns-2 c =
-    let a = c .before .before .before .before .before .before .before .args in
-    appending.reads (appending.within (c .before .before .put-refused .ensures) 6709 (omega arith)) (listings.by-refused (a .n) (a .table .now) (a .read) (a .frame .now) (c .before .before .before .before .if1 .left))
+    let start = c .before .before .before .before .before .before .before in
+    let a = start .args in
+    let lines = appending.refused-stands (a .out .now) (a .at) (a .n) (a .read .number) 0 (omega (arith, start .pre .0)) (c .before .before .put-refused .ensures) in
+    appending.reads (appending.within lines 6709 (omega arith)) (listings.by-refused (a .n) (a .table .now) (a .read) (a .frame .now) (c .before .before .before .before .if1 .left))
 
 pub put-read-spec : {M : Type 1} → statement M
 put-read-spec =

@@ -9,7 +9,7 @@ use Rattle.listing.proofs.stream.list_last.Tie as tie
 
 returns : tie.Need-returns
 returns c =
-    let a = c .before .before .before .args in turns.none-kept (a .table .now) (a .begun) (a .kept .now) (a .out .now) (c .if1 .taken)
+    let a = c .before .before .args in turns.none-kept (a .table .now) (a .begun) (a .kept .now) (a .out .now) (c .if1 .taken)
 
 least-requires : tie.Need-least-requires
 least-requires c κs = search needs
@@ -34,7 +34,7 @@ returns-2 : tie.Need-returns-2
 returns-2 c =
     let a = c .before .before .before .before .before .before .before .before .before .before .before .before .args in
     let line = c .before .before .before .before .before .list-line .ensures in
-    turns.last-listed (a .table .now) (a .begun) (a .kept .now) (a .out .now) (c .before .before .before .before .before .before .before .before .before .if1 .left) (c .before .before .before .before .before .before .before .before .least .ensures) (line .0) (line .1) (c .before .next .given .1)
+    turns.last-listed (a .table .now) (a .begun) (a .kept .now) (a .out .now) (c .before .before .before .before .before .before .before .before .before .before .if1 .left) (c .before .before .before .before .before .before .before .before .least .ensures) (line .0) (line .1) (c .before .next .given .1)
 
 same-length-2 : tie.Need-same-length-2
 same-length-2 c = search needs
@@ -43,7 +43,7 @@ returns-3 : tie.Need-returns-3
 returns-3 c =
     let a = c .before .before .before .before .before .before .before .before .before .before .before .args in
     let line = c .before .before .before .before .list-line .ensures in
-    turns.no-room (a .table .now) (a .begun) (a .kept .now) (a .out .now) (c .before .before .before .before .before .before .before .before .if1 .left) (c .before .before .before .before .before .before .before .least .ensures) (line .0) (line .1) (c .enum-told .given .1)
+    turns.no-room (a .table .now) (a .begun) (a .kept .now) (a .out .now) (c .before .before .before .before .before .before .before .before .before .if1 .left) (c .before .before .before .before .before .before .before .least .ensures) (line .0) (line .1) (c .enum-told .given .1)
 
 pub list-last-spec : {M : Type 1} → statement M
 list-last-spec =

@@ -1,7 +1,7 @@
 -- `listing::stream::put_taken` meets its contract: a whole line, or nothing.
 use native.Mathlib.Omega.{arith}
 use borrow.Author.Needs.{needs}
-use Rattle.listing.proofs.Appending as appending
+use Rattle.printing.proofs.Appending as appending
 use Rattle.listing.proofs.stream.put_taken.Statement.{statement}
 use Rattle.listing.proofs.stream.put_taken.Tie as tie
 

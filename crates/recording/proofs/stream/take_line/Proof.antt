@@ -17,7 +17,7 @@ line-end-requires c κs = search needs
 slice-aggregate-read-line : tie.Need-slice-aggregate-read-line
 slice-aggregate-read-line c =
     let line = ap (λ (l : Line). l .size) (c .before .before .line-end .ensures) in
-    sym (length-take-le _ _ (omega (arith, line, ends.size-within (c .before .before .before .before .before .before .before .args .piece .now))))
+    sym (length-take-le _ _ (omega (arith, line, ends.size-within (c .before .before .before .before .before .before .args .piece .now))))
 
 read-line-requires : tie.Need-read-line-requires
 read-line-requires c κs = search needs
@@ -30,7 +30,7 @@ same-length c = search needs
 
 returns : tie.Need-returns
 returns c =
-    let a = c .before .before .before .before .before .before .before .before .before .before .before .before .args in
+    let a = c .before .before .before .before .before .before .before .before .before .before .before .args in
     let line = c .before .before .before .before .before .before .before .line-end in
     taking.own (a .frame .now) (a .begun) (a .kept .now) (a .piece .now) (line .result) (c .before .before .before .before .before .before .before .before .if1 .taken) (line .ensures) (c .before .before .before .before .before .before .if2 .taken)
     (c .before .before .before .read-line .ensures) (c .after .ensures)
@@ -40,9 +40,6 @@ keep-requires c κs = search needs
 
 least-requires : tie.Need-least-requires
 least-requires c κs = search needs
-
-slice-reshare-prefix-read-line : tie.Need-slice-reshare-prefix-read-line
-slice-reshare-prefix-read-line c = search needs
 
 slice-aggregate-read-line-2 : tie.Need-slice-aggregate-read-line-2
 slice-aggregate-read-line-2 c =
@@ -57,25 +54,19 @@ after-requires-2 c κs = search needs
 same-length-2 : tie.Need-same-length-2
 same-length-2 c = search needs
 
-same-length-3 : tie.Need-same-length-3
-same-length-3 c = search needs
-
 returns-2 : tie.Need-returns-2
 returns-2 c =
-    let a = c .before .before .before .before .before .before .before .before .before .before .before .before .before .before .before .before .args in
+    let a = c .before .before .before .before .before .before .before .before .before .before .before .before .before .before .before .args in
     let keep = c .before .before .before .before .before .before .before .before .before .before .keep in
-    let whole = c .before .before .before .before .before .before .before .if3 .taken in
+    let whole = c .before .before .before .before .before .before .before .before .before .if3 .taken in
     taking.ends (a .frame .now) (a .begun) (a .kept .now) (a .piece .now) (keep .result) (keep .ensures .0) (keep .ensures .1)
     (λ none. ⊎-elim (λ w. ap (λ (k : Kept). k .whole) (keep .ensures .0) ∙ sym (ap (λ (l : Line). l .whole) (w .1 .ensures)) ∙ w .2 .left) (λ w. absurd (w .left none)) (c .before .before .before .before .before .before .before .before .before .before .before .before .if1 .came))
     whole (c .before .before .before .before .before .before .least .ensures) (c .before .before .before .read-line2 .ensures) (c .after2 .ensures)
 
-same-length-4 : tie.Need-same-length-4
-same-length-4 c = search needs
-
 returns-3 : tie.Need-returns-3
 returns-3 c =
-    let a = c .before .before .before .before .before .before .before .before .before .args in
-    let keep = c .before .before .before .keep in
+    let a = c .before .before .before .before .before .before .args in
+    let keep = c .before .keep in
     taking.goes-on (a .frame .now) (a .begun) (a .kept .now) (a .piece .now) (keep .result) (keep .ensures .0) (keep .ensures .1) (c .if3 .left)
 
 pub take-line-spec : {M : Type 1} → statement M
@@ -90,12 +81,9 @@ take-line-spec =
     returns
     keep-requires
     least-requires
-    slice-reshare-prefix-read-line
     slice-aggregate-read-line-2
     read-line-requires-2
     after-requires-2
     same-length-2
-    same-length-3
     returns-2
-    same-length-4
     returns-3)

@@ -1,0 +1,63 @@
+-- The example of docs/FOLLOW.md, over the definition.
+use Prim.Native.Nat.{ℕ}
+use Prim.Native.String.{String}
+use mathlib.Core.Path.{_≡_, refl}
+use mathlib.Core.List.{List, [], _∷_, _++_}
+use Rattle.octets.specs.Text.{ascii, lf, starts, hasLf}
+use Rattle.record.specs.Record.{syntaxAt, packed, meaning, foundAt}
+use Rattle.provisioning.specs.Value.{digitOf, thirdDigit, secondDigit, numberBy, wordAmong, valueLine}
+use Rattle.provisioning.specs.Line.{lineBy}
+use Rattle.provisioning.specs.Text.{walk, reading}
+use Rattle.frame.specs.Header.{told, headerAt}
+use Rattle.frame.specs.Opening.{scan, scanned, opening}
+use Rattle.payload.specs.Layout.{onVoice, onFax, onData}
+use Rattle.digits.specs.Layout.{digitsRead}
+use Rattle.dialling.specs.Receiver.{received}
+use Rattle.trunk.specs.Trunk.{taken}
+use Rattle.recording.specs.Hex.{hexValue, anyOther, paired}
+use Rattle.recording.specs.Line.{lineRead}
+use Rattle.recording.specs.Pieces.{textFrom, lineSize}
+use Rattle.printing.specs.Decimal.{digits}
+use Rattle.printing.specs.Hex.{hexDigit, hexOf}
+use Rattle.printing.specs.Field.{field, hexField}
+use Rattle.printing.specs.Refused.{refusedListing}
+use Rattle.following.specs.Following.{periodLines, countLines, dialledLines, seizedLines, subLines, subFollowing, subsFollowing, openedFollowing, lineFollowing, linesFollowing, following}
+
+-- lines, each with its LF
+abbrev lines : List String → List ℕ
+lines [] = []
+lines (word ∷ words) = ascii word ++ lf ∷ [] ++ lines words
+
+pub input : List ℕ
+input =
+    lines
+    ("cid=5" ∷ "syntax=acelp" ∷ "m=1" ∷ "seq=0" ∷ "frame=85010000240520050000" ∷ "frame=85010300240520052005" ∷ [])
+
+pub printed : List ℕ
+printed =
+    lines
+    ("frame=0"
+    ∷ "type=1"
+    ∷ "len=8"
+    ∷ "answer=0"
+    ∷ "filled=0"
+    ∷ "with=000000"
+    ∷ "carried=3"
+    ∷ "period=000000"
+    ∷ "period=010005"
+    ∷ "period=010405"
+    ∷ "frame=1"
+    ∷ "type=1"
+    ∷ "len=8"
+    ∷ "answer=0"
+    ∷ "filled=0"
+    ∷ "with=000000"
+    ∷ "carried=3"
+    ∷ "period=010005"
+    ∷ "period=010005"
+    ∷ "period=010405"
+    ∷ [])
+
+pub follows : following 5 input ≡ printed
+unfolding input printed following linesFollowing lineFollowing openedFollowing refusedListing subsFollowing subFollowing subLines dialledLines seizedLines countLines periodLines field hexField hexOf hexDigit digits taken received lineRead anyOther paired hexValue textFrom lineSize reading walk lineBy valueLine numberBy secondDigit thirdDigit digitOf wordAmong starts hasLf opening scanned scan headerAt told foundAt meaning packed syntaxAt onVoice onFax onData digitsRead
+follows = refl

@@ -1,0 +1,1 @@
+// What one sub-channel's trunk does with a recording, as functions on slices (docs/FOLLOW.md).

@@ -1,0 +1,4 @@
+pub mod Spelling
+pub mod Appending
+pub mod Digits
+pub mod HexRoom
