@@ -1,13 +1,12 @@
--- Laws of `inOrder` (crates/refusal/specs/Order.antt): what the first test that holds gives, and what is left where none does.
+-- Laws of `inOrder` (specs/Order.antt): what the first test that holds gives, and what is left where none does.
 use Prim.Native.Nat.{ℕ}
 use mathlib.Core.Path.{_≡_, refl}
 use mathlib.Core.List.{List, [], _∷_}
-use mathlib.Core.Bool.{true, false, cond}
+use mathlib.Core.Bool.{Bool, true, false, cond}
 use native.Mathlib.Omega.{arith}
 use borrow.Author.Tests.{ne-eqb}
 use lib.Dec.{T, ltb, eqb, ltb→lt}
 use Rattle.refusal.specs.Order.{Test, inOrder}
-use Rattle.octets.proofs.Order.{either}
 
 -- the tests before it are passed, and it holds
 pub data Stops : List Test → ℕ → Type 0 where
@@ -35,10 +34,11 @@ module _ {A : Type 0} (refused : ℕ → A) (sound : A) where
       → inOrder ts refused sound ≡ r
       → Passes ts × (sound ≡ r)
   passed [] r never e = (tt, e)
-  passed (t ∷ ts) r never e =
-      either (λ h. absurd (never (t .number) (rw h at e)))
-      (λ h. let rest = passed ts r never (rw h at e) in ((h, rest .0), rest .1))
-      (t .holds) refl
+  passed (t ∷ ts) r never e = go (t .holds) refl (λ later. passed ts r never later)
+    where
+      go : (h : Bool) → t .holds ≡ h → (inOrder ts refused sound ≡ r → Passes ts × (sound ≡ r)) → Passes (t ∷ ts) × (sound ≡ r)
+      go true h rest = absurd (never (t .number) (rw h at e))
+      go false h rest = let later = rest (rw h at e) in ((h, later .0), later .1)
 
 -- the number of the first test that holds, or 0, tells the same
 abbrev pub numberOf : List Test → ℕ
@@ -53,7 +53,12 @@ pub by-number :
     → Numbered ts
     → inOrder ts refused sound ≡ cond (eqb (numberOf ts) 0) sound (refused (numberOf ts))
 by-number refused sound [] n = refl
-by-number refused sound (t ∷ ts) n =
-    either (λ h. rw h (simp (ne-eqb (t .number) 0 (λ e. omega (arith, ltb→lt 0 (t .number) (n .0))))))
-    (λ h. rw h (by-number refused sound ts (n .1)))
-    (t .holds) refl
+by-number refused sound (t ∷ ts) n = go (t .holds) (by-number refused sound ts (n .1))
+  where
+    go :
+        (h : Bool)
+        → inOrder ts refused sound ≡ cond (eqb (numberOf ts) 0) sound (refused (numberOf ts))
+        → cond h (refused (t .number)) (inOrder ts refused sound)
+        ≡ cond (eqb (cond h (t .number) (numberOf ts)) 0) sound (refused (cond h (t .number) (numberOf ts)))
+    go true rest = simp (ne-eqb (t .number) 0 (λ e. omega (arith, ltb→lt 0 (t .number) (n .0))))
+    go false rest = rest
