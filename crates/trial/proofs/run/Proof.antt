@@ -19,9 +19,6 @@ start-state-requires c κs = tt
 start-state-requires-2 : tie.Need-start-state-requires-2 Inv-loop μ-loop
 start-state-requires-2 c κs = tt
 
-unread-requires : tie.Need-unread-requires Inv-loop μ-loop
-unread-requires c κs = tt
-
 loop-holds : tie.Need-loop-holds Inv-loop μ-loop
 loop-holds c = search needs
 
@@ -63,7 +60,6 @@ run-spec =
     μ-loop
     start-state-requires
     start-state-requires-2
-    unread-requires
     loop-holds
     add-number
     turn-requires
