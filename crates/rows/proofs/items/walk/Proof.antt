@@ -1,5 +1,6 @@
 -- `rows::items::walk` is safe and ends.
 use native.Mathlib.Omega.{arith}
+use borrow.Author.Needs.{needs}
 use Rattle.rows.proofs.items.walk.Statement.{statement}
 use Rattle.rows.proofs.items.walk.Tie as tie
 
@@ -10,31 +11,31 @@ abbrev μ-loop : tie.MeasureT-loop
 μ-loop input works first acc₀ at₀ left₀ acc at left = left
 
 loop-holds : tie.Need-loop-holds Inv-loop μ-loop
-loop-holds c = tt
+loop-holds c = search needs
 
 sub-left : tie.Need-sub-left Inv-loop μ-loop
 sub-left c = omega arith
 
 item-at-requires : tie.Need-item-at-requires Inv-loop μ-loop
-item-at-requires c κs = tt
+item-at-requires c κs = search needs
 
 octets-of-requires : tie.Need-octets-of-requires Inv-loop μ-loop
-octets-of-requires c κs = tt
+octets-of-requires c κs = search needs
 
 octet-requires : tie.Need-octet-requires Inv-loop μ-loop
-octet-requires c κs = tt
+octet-requires c κs = search needs
 
 octet-requires-2 : tie.Need-octet-requires-2 Inv-loop μ-loop
-octet-requires-2 c κs = tt
+octet-requires-2 c κs = search needs
 
 loop-less : tie.Need-loop-less Inv-loop μ-loop
 loop-less c = omega arith
 
 loop-again : tie.Need-loop-again Inv-loop μ-loop
-loop-again c = tt
+loop-again c = search needs
 
 returns : tie.Need-returns Inv-loop μ-loop
-returns c = tt
+returns c = search needs
 
 pub walk-spec : {M : Type 1} → statement M
 walk-spec =

@@ -1,5 +1,6 @@
 -- `rows::steps::send_digits` is safe and ends.
 use native.Mathlib.Omega.{arith}
+use borrow.Author.Needs.{needs}
 use Rattle.rows.proofs.steps.send_digits.Statement.{statement}
 use Rattle.rows.proofs.steps.send_digits.Tie as tie
 
@@ -10,37 +11,37 @@ abbrev μ-loop : tie.MeasureT-loop
 μ-loop input works first sender₀ acc₀ at₀ left₀ sender acc at left = left
 
 fresh-requires : tie.Need-fresh-requires Inv-loop μ-loop
-fresh-requires c κs = tt
+fresh-requires c κs = search needs
 
 loop-holds : tie.Need-loop-holds Inv-loop μ-loop
-loop-holds c = tt
+loop-holds c = search needs
 
 sub-left : tie.Need-sub-left Inv-loop μ-loop
 sub-left c = omega arith
 
 item-at-requires : tie.Need-item-at-requires Inv-loop μ-loop
-item-at-requires c κs = tt
+item-at-requires c κs = search needs
 
 octets-of-requires : tie.Need-octets-of-requires Inv-loop μ-loop
-octets-of-requires c κs = tt
+octets-of-requires c κs = search needs
 
 digit-entry-requires : tie.Need-digit-entry-requires Inv-loop μ-loop
-digit-entry-requires c κs = tt
+digit-entry-requires c κs = search needs
 
 send-requires : tie.Need-send-requires Inv-loop μ-loop
-send-requires c κs = tt
+send-requires c κs = search needs
 
 sending-requires : tie.Need-sending-requires Inv-loop μ-loop
-sending-requires c κs = tt
+sending-requires c κs = search needs
 
 loop-less : tie.Need-loop-less Inv-loop μ-loop
 loop-less c = omega arith
 
 loop-again : tie.Need-loop-again Inv-loop μ-loop
-loop-again c = tt
+loop-again c = search needs
 
 returns : tie.Need-returns Inv-loop μ-loop
-returns c = tt
+returns c = search needs
 
 pub send-digits-spec : {M : Type 1} → statement M
 send-digits-spec =

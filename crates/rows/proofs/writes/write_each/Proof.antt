@@ -19,19 +19,19 @@ sub-left : tie.Need-sub-left Inv-loop μ-loop
 sub-left c = omega arith
 
 item-at-requires : tie.Need-item-at-requires Inv-loop μ-loop
-item-at-requires c κs = tt
+item-at-requires c κs = search needs
 
 set-in-requires : tie.Need-set-in-requires Inv-loop μ-loop
-set-in-requires c κs = tt
+set-in-requires c κs = search needs
 
 octets-of-requires : tie.Need-octets-of-requires Inv-loop μ-loop
-octets-of-requires c κs = tt
+octets-of-requires c κs = search needs
 
 write-requires : tie.Need-write-requires Inv-loop μ-loop
-write-requires c κs = tt
+write-requires c κs = search needs
 
 octets-requires : tie.Need-octets-requires Inv-loop μ-loop
-octets-requires c κs = tt
+octets-requires c κs = search needs
 
 loop-less : tie.Need-loop-less Inv-loop μ-loop
 loop-less c = omega arith
@@ -52,7 +52,7 @@ same-length-2 : tie.Need-same-length-2 Inv-loop μ-loop
 same-length-2 c = search needs
 
 returns : tie.Need-returns Inv-loop μ-loop
-returns c = tt
+returns c = search needs
 
 pub write-each-spec : {M : Type 1} → statement M
 write-each-spec =
