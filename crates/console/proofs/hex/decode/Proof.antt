@@ -1,7 +1,6 @@
 -- `console::hex::decode` meets its contract: each turn makes one octet of two characters, or stops.
 use Prim.Native.Nat.{_-_}
-use mathlib.Core.Path.{ap, sym, _∙_}
-use native.Mathlib.Omega.{arith}
+use mathlib.Core.Path.{ap, _∙_}
 use lib.ListN.{length}
 use borrow.Author.Needs.{needs}
 use Rattle.recording.specs.Hex.{hexValue}

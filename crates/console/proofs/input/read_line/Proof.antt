@@ -17,7 +17,7 @@ loop-holds : tie.Need-loop-holds Inv-loop μ-loop
 loop-holds c = search needs
 
 next-character-requires : tie.Need-next-character-requires Inv-loop μ-loop
-next-character-requires c κs = tt
+next-character-requires c κs = search needs
 
 same-length : tie.Need-same-length Inv-loop μ-loop
 same-length c = search needs
@@ -38,7 +38,7 @@ returns-2 : tie.Need-returns-2 Inv-loop μ-loop
 returns-2 c = search needs
 
 keep-requires : tie.Need-keep-requires Inv-loop μ-loop
-keep-requires c κs = tt
+keep-requires c κs = search needs
 
 add-size : tie.Need-add-size Inv-loop μ-loop
 add-size c = omega arith

@@ -12,16 +12,16 @@ abbrev μ-loop : tie.MeasureT-loop
 μ-loop name octets from to i₀ t6 i = to - i
 
 write-all-requires : tie.Need-write-all-requires Inv-loop μ-loop
-write-all-requires c κs = tt
+write-all-requires c κs = search needs
 
 loop-holds : tie.Need-loop-holds Inv-loop μ-loop
-loop-holds c = tt
+loop-holds c = search needs
 
 octet-requires : tie.Need-octet-requires Inv-loop μ-loop
-octet-requires c κs = tt
+octet-requires c κs = search needs
 
 octet-requires-2 : tie.Need-octet-requires-2 Inv-loop μ-loop
-octet-requires-2 c κs = tt
+octet-requires-2 c κs = search needs
 
 add-i : tie.Need-add-i Inv-loop μ-loop
 add-i c = omega arith
@@ -30,16 +30,16 @@ loop-less : tie.Need-loop-less Inv-loop μ-loop
 loop-less c = omega arith
 
 loop-again : tie.Need-loop-again Inv-loop μ-loop
-loop-again c = tt
+loop-again c = search needs
 
 slice-aggregate-write-all : tie.Need-slice-aggregate-write-all Inv-loop μ-loop
 slice-aggregate-write-all c = search needs
 
 write-all-requires-2 : tie.Need-write-all-requires-2 Inv-loop μ-loop
-write-all-requires-2 c κs = tt
+write-all-requires-2 c κs = search needs
 
 returns : tie.Need-returns Inv-loop μ-loop
-returns c = tt
+returns c = search needs
 
 pub part-spec : {M : Type 1} → statement M
 part-spec =
