@@ -25,7 +25,7 @@ use Rattle.frame.proofs.OpeningTurns.{Ahead, opens-ahead, sound-is, refused-is,
 use Rattle.voice.specs.declared.voice.VoiceRead.{VoiceRead}
 use Rattle.voice.specs.declared.voice.VoiceRead.the-variants.{Voice, BadVoice}
 use Rattle.voice.specs.Voice.{readRefusals, voiceRead}
-use Rattle.voice.proofs.Order.{by-number}
+use Rattle.refusal.proofs.Order.{by-number}
 use Rattle.record.specs.declared.syntax.Record.{Record}
 use Rattle.record.specs.declared.table.Found.{Found}
 use Rattle.record.specs.declared.table.Found.the-variants.{Provisioned, Unprovisioned}

@@ -20,7 +20,7 @@ use Rattle.fax.specs.declared.Command.the-variants.{On}
 use Rattle.fax.specs.declared.FaxRead.the-variants.{Fax, BadFax}
 use Rattle.fax.specs.Fax.{firstOctet, onOctet, toneRefused, codeOf, commandOf, ei1In, onIn, timeIn, headOctets, frontOf, sequenceIn, codeIn, stampIn, ei2In, zeroBitsIn, commandIn, unstamped, bodySized, refusedOn, readRefusals, faxRead, stampNumber, writeRefusals, faxMade}
 use Rattle.fax.proofs.Commands.{Plain, plain, plain-front, code-back}
-use Rattle.fax.proofs.Order.{Stops, here, past, Passes, stopped, sounds, passed}
+use Rattle.refusal.proofs.Order.{Stops, here, past, Passes, stopped, sounds, passed}
 
 module _ (p : List ℕ) (stamp : Stamp) (command : Command) (st : stampIn p ≡ stamp) (co : commandIn p ≡ command) where
   stops : {number : ℕ} → Stops (readRefusals p stamp command) number → faxRead p ≡ BadFax number

@@ -1,4 +1,3 @@
-pub mod Order
 pub mod Tests
 pub mod Commands
 pub mod FaxCases

@@ -18,7 +18,7 @@ use Rattle.fax.specs.declared.Command.the-variants.{On}
 use Rattle.fax.specs.declared.FaxRead.the-variants.{Fax, BadFax}
 use Rattle.fax.specs.Fax.{codeOf, stampOctets, onOctet, commandOctets, headOctets, frontOf, bit8, ei1In, sequenceIn, codeIn, timeIn, stampIn, ei2In, onIn, zeroBitsIn, commandOf, commandIn, unstamped, bodySized, refusedOn, readRefusals, faxRead, stampNumber, faxMade}
 use Rattle.fax.specs.Claims.{ReadIsMade}
-use Rattle.fax.proofs.Order.{passed}
+use Rattle.refusal.proofs.Order.{passed}
 use Rattle.fax.proofs.Commands.{plain, code-back, plain-front}
 use Rattle.fax.proofs.FaxCases as cases
 

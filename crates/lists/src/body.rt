@@ -8,6 +8,18 @@ pub struct Body {
     pub seed: u64,
 }
 
+// As many octets, each of any value.
+pub fn drawn(len: usize, seed: u64) -> Body {
+    let mut at = seed;
+    let first = crate::draws::octet(&mut at);
+    Body {
+        len,
+        first,
+        mask: 255,
+        seed: at,
+    }
+}
+
 // The octets of a part, and none where it is not there.
 pub fn part(octets: &[u8], start: usize, len: usize) -> &[u8] {
     if octets.len() < start {

@@ -85,16 +85,8 @@ fn g7231(state: u64) -> Body {
 }
 
 fn blocks(rec: Record, coding: u8, state: u64) -> Body {
-    let mut at = state;
     let syntax = rec.syntax;
-    let len = times(rec.m, block(syntax, coding));
-    let first = draws::octet(&mut at);
-    Body {
-        len,
-        first,
-        mask: 255,
-        seed: at,
-    }
+    crate::body::drawn(times(rec.m, block(syntax, coding)), state)
 }
 
 // Speech of a record: with seq=0 there is no octet for a sequence.
@@ -121,17 +113,11 @@ pub fn draw_fragment(len: usize, seed: u64) -> Fragment {
     let begins = draws::flag(&mut at);
     let ends = draws::flag(&mut at);
     let sequence = DataCount(draws::number(&mut at) % 8192);
-    let first = draws::octet(&mut at);
     Fragment {
         begins,
         ends,
         sequence,
-        body: Body {
-            len,
-            first,
-            mask: 255,
-            seed: at,
-        },
+        body: crate::body::drawn(len, at),
     }
 }
 
@@ -259,16 +245,10 @@ pub fn draw_relay(seed: u64) -> Relay {
     let command = command(&mut at);
     let stamp = stamp(command, &mut at);
     let len = data_octets(command, &mut at);
-    let first = draws::octet(&mut at);
     Relay {
         sequence,
         stamp,
         command,
-        body: Body {
-            len,
-            first,
-            mask: 255,
-            seed: at,
-        },
+        body: crate::body::drawn(len, at),
     }
 }

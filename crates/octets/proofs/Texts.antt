@@ -21,19 +21,14 @@ module _ (s w : List ℕ) (i : ℕ) where
   unfolding starts
   all-passed h = rw (drop-of-length-le w h)
 
-  module _ (more : i < length w) where
-    pub short : length s ≤ i → starts (drop i s) (drop i w) ≡ false
+  module _ (more : i < length w) (there : i < length s) where
+    pub differs : (getD s i 0 ≡ getD w i 0 → ⊥) → starts (drop i s) (drop i w) ≡ false
     unfolding starts
-    short h = rw (drop-of-length-le s h, drop-cons w i 0 more)
+    differs h = rw (drop-cons s i 0 there, drop-cons w i 0 more) (simp (ne-eqb (getD s i 0) (getD w i 0) h))
 
-    module _ (there : i < length s) where
-      pub differs : (getD s i 0 ≡ getD w i 0 → ⊥) → starts (drop i s) (drop i w) ≡ false
-      unfolding starts
-      differs h = rw (drop-cons s i 0 there, drop-cons w i 0 more) (simp (ne-eqb (getD s i 0) (getD w i 0) h))
-
-      pub agrees : getD s i 0 ≡ getD w i 0 → starts (drop i s) (drop i w) ≡ starts (drop (i + 1) s) (drop (i + 1) w)
-      unfolding starts
-      agrees h = rw (drop-cons s i 0 there, drop-cons w i 0 more, add-one i) (simp (eq-eqb (getD s i 0) (getD w i 0) h))
+    pub agrees : getD s i 0 ≡ getD w i 0 → starts (drop i s) (drop i w) ≡ starts (drop (i + 1) s) (drop (i + 1) w)
+    unfolding starts
+    agrees h = rw (drop-cons s i 0 there, drop-cons w i 0 more, add-one i) (simp (eq-eqb (getD s i 0) (getD w i 0) h))
 
 -- looking for an LF, from place i on
 module _ (s : List ℕ) (i : ℕ) where
@@ -67,3 +62,11 @@ starts-whole (x ∷ xs) (w ∷ ws) e =
 
 pub starts-length : (s w : List ℕ) → starts s w ≡ true → length w ≤ length s
 starts-length s w e = omega (arith, ap length (starts-whole s w e) ∙ length-append w (drop (length w) s))
+
+not-true : (t : Bool) → (t ≡ true → ⊥) → t ≡ false
+not-true true h = absurd (h refl)
+not-true false h = refl
+
+-- a text that is shorter than a word does not start with it
+pub short : (s w : List ℕ) → length s < length w → starts s w ≡ false
+short s w h = not-true (starts s w) (λ e. omega (arith, starts-length s w e))

@@ -9,11 +9,11 @@ pub const LF: u8 = 10;
 pub fn starts(s: &[u8], with: &[u8]) -> bool
     ensures { λ r. ⌜ r ≡ starts (now (s .entry)) (now (with .entry)) ⌝ }
 {
+    if s.len() < with.len() {
+        return false;
+    }
     let mut i = 0;
     while i < with.len() {
-        if s.len() <= i {
-            return false;
-        }
         if s[i] != with[i] {
             return false;
         }

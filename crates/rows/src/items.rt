@@ -32,31 +32,52 @@ pub fn part(octets: &[u8], start: usize, len: usize) -> &[u8] {
     &octets[start..end]
 }
 
-// Where an item's octets begin, and where they end.
-pub struct Item {
+// How far the walk over the items is: where the octets of the item at hand begin and end, and how many works are left.
+pub struct Place {
     pub start: usize,
     pub end: usize,
+    pub left: u64,
 }
 
-// The item at a place; past the last, the first again.
-pub fn item_at(octets: &[u8], at: usize, first: usize) -> Item {
-    let place = if at < octets.len() { at } else { first };
+// Before the first item.
+pub fn begin(works: u64, first: usize) -> Place {
+    Place {
+        start: first,
+        end: first,
+        left: works,
+    }
+}
+
+// The next item; past the last, the first again.
+pub fn next(octets: &[u8], walk: Place, first: usize) -> Place
+    requires { ⌜ 0 < walk .left ⌝ }
+    ensures { λ r. ⌜ r .left < walk .left ⌝ }
+{
+    let place = if walk.end < octets.len() {
+        walk.end
+    } else {
+        first
+    };
+    let left = walk.left - 1;
     let len = size(octets, place);
     if octets.len() <= place {
-        return Item {
+        return Place {
             start: octets.len(),
             end: octets.len(),
+            left,
         };
     }
     if octets.len() - place < len + 2 {
-        return Item {
+        return Place {
             start: octets.len(),
             end: octets.len(),
+            left,
         };
     }
-    Item {
+    Place {
         start: place + 2,
         end: place + 2 + len,
+        left,
     }
 }
 
@@ -68,39 +89,35 @@ pub fn set(octets: &mut [u8], at: usize, octet: u8) {
 }
 
 // Changes an octet of an item.
-pub fn set_in(octets: &mut [u8], item: Item, at: usize, acc: u64) {
-    if item.start < item.end {
-        if at < item.end - item.start {
-            set(octets, item.start + at, crate::fold::low(acc));
+pub fn set_in(octets: &mut [u8], walk: Place, at: usize, acc: u64) {
+    if walk.start < walk.end {
+        if at < walk.end - walk.start {
+            set(octets, walk.start + at, crate::fold::low(acc));
         }
     }
 }
 
 // Changes the last octet of an item, so that no work is like the one before.
-pub fn touch(octets: &mut [u8], item: Item, acc: u64) {
-    if item.start < item.end {
-        set(octets, item.end - 1, crate::fold::low(acc));
+pub fn touch(octets: &mut [u8], walk: Place, acc: u64) {
+    if walk.start < walk.end {
+        set(octets, walk.end - 1, crate::fold::low(acc));
     }
 }
 
-pub fn octets_of(octets: &[u8], item: Item) -> &[u8] {
-    if item.end < item.start {
+pub fn octets_of(octets: &[u8], walk: Place) -> &[u8] {
+    if walk.end < walk.start {
         return &octets[..0];
     }
-    part(octets, item.start, item.end - item.start)
+    part(octets, walk.start, walk.end - walk.start)
 }
 
 // The walk over the items alone.
 pub fn walk(input: &[u8], works: u64, first: usize) -> u64 {
     let mut acc = crate::fold::FIRST;
-    let mut at = first;
-    let mut left = works;
-    while 0 < left {
-        left -= 1;
-        let item = item_at(input, at, first);
-        at = item.end;
-        let item_octets = octets_of(input, item);
-        acc = crate::fold::octet(acc, octets::octet(item_octets, 0));
+    let mut walk = begin(works, first);
+    while 0 < walk.left {
+        walk = next(input, walk, first);
+        acc = crate::fold::octet(acc, octets::octet(octets_of(input, walk), 0));
     }
     acc
 }

@@ -167,14 +167,11 @@ fn read_data(acc: u64, payload: &[u8]) -> u64 {
 // The check of each item.
 pub fn check_each(input: &mut [u8], works: u64, first: usize) -> u64 {
     let mut acc = crate::fold::FIRST;
-    let mut at = first;
-    let mut left = works;
-    while 0 < left {
-        left -= 1;
-        let item = crate::items::item_at(input, at, first);
-        at = item.end;
-        crate::items::touch(input, item, acc);
-        acc = check(acc, crate::items::octets_of(input, item));
+    let mut walk = crate::items::begin(works, first);
+    while 0 < walk.left {
+        walk = crate::items::next(input, walk, first);
+        crate::items::touch(input, walk, acc);
+        acc = check(acc, crate::items::octets_of(input, walk));
     }
     acc
 }
@@ -182,14 +179,11 @@ pub fn check_each(input: &mut [u8], works: u64, first: usize) -> u64 {
 // Each item opened and read.
 pub fn read_each(input: &mut [u8], works: u64, first: usize, table: &[u16; 256]) -> u64 {
     let mut acc = crate::fold::FIRST;
-    let mut at = first;
-    let mut left = works;
-    while 0 < left {
-        left -= 1;
-        let item = crate::items::item_at(input, at, first);
-        at = item.end;
-        crate::items::touch(input, item, acc);
-        acc = read(acc, crate::items::octets_of(input, item), table);
+    let mut walk = crate::items::begin(works, first);
+    while 0 < walk.left {
+        walk = crate::items::next(input, walk, first);
+        crate::items::touch(input, walk, acc);
+        acc = read(acc, crate::items::octets_of(input, walk), table);
     }
     acc
 }
@@ -198,14 +192,11 @@ pub fn read_each(input: &mut [u8], works: u64, first: usize, table: &[u16; 256])
 pub fn hand_each(input: &mut [u8], works: u64, first: usize, table: &[u16; 256]) -> u64 {
     let silence = [85u8; 20];
     let mut acc = crate::fold::FIRST;
-    let mut at = first;
-    let mut left = works;
-    while 0 < left {
-        left -= 1;
-        let item = crate::items::item_at(input, at, first);
-        at = item.end;
-        crate::items::touch(input, item, acc);
-        acc = hand(acc, crate::items::octets_of(input, item), &silence, table);
+    let mut walk = crate::items::begin(works, first);
+    while 0 < walk.left {
+        walk = crate::items::next(input, walk, first);
+        crate::items::touch(input, walk, acc);
+        acc = hand(acc, crate::items::octets_of(input, walk), &silence, table);
     }
     acc
 }

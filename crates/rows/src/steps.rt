@@ -95,13 +95,10 @@ fn seized(acc: u64, received: seizing::receiver::Received) -> u64 {
 pub fn send_digits(input: &[u8], works: u64, first: usize) -> u64 {
     let mut sender = dialling::sender::fresh();
     let mut acc = crate::fold::FIRST;
-    let mut at = first;
-    let mut left = works;
-    while 0 < left {
-        left -= 1;
-        let item = crate::items::item_at(input, at, first);
-        at = item.end;
-        let octets = crate::items::octets_of(input, item);
+    let mut walk = crate::items::begin(works, first);
+    while 0 < walk.left {
+        walk = crate::items::next(input, walk, first);
+        let octets = crate::items::octets_of(input, walk);
         let taken = dialling::sender::send(sender, digit_entry(octets));
         sender = taken.sender;
         let answer = taken.answer;
@@ -114,13 +111,10 @@ pub fn send_digits(input: &[u8], works: u64, first: usize) -> u64 {
 pub fn receive_digits(input: &[u8], works: u64, first: usize) -> u64 {
     let mut receiver = dialling::receiver::fresh();
     let mut acc = crate::fold::FIRST;
-    let mut at = first;
-    let mut left = works;
-    while 0 < left {
-        left -= 1;
-        let item = crate::items::item_at(input, at, first);
-        at = item.end;
-        let octets = crate::items::octets_of(input, item);
+    let mut walk = crate::items::begin(works, first);
+    while 0 < walk.left {
+        walk = crate::items::next(input, walk, first);
+        let octets = crate::items::octets_of(input, walk);
         let answer = dialling::receiver::receive(receiver, octets);
         receiver = answer.receiver;
         acc = received(acc, answer);
@@ -133,13 +127,10 @@ pub fn send_signalling(input: &[u8], works: u64, first: usize) -> u64 {
     let started = seizing::sender::start(0);
     let mut sender = started.sender;
     let mut acc = crate::fold::FIRST;
-    let mut at = first;
-    let mut left = works;
-    while 0 < left {
-        left -= 1;
-        let item = crate::items::item_at(input, at, first);
-        at = item.end;
-        let octets = crate::items::octets_of(input, item);
+    let mut walk = crate::items::begin(works, first);
+    while 0 < walk.left {
+        walk = crate::items::next(input, walk, first);
+        let octets = crate::items::octets_of(input, walk);
         let answer = seizing::sender::send(sender, signalling_entry(octets));
         sender = answer.sender;
         acc = sent(acc, answer);
@@ -151,13 +142,10 @@ pub fn send_signalling(input: &[u8], works: u64, first: usize) -> u64 {
 pub fn receive_signalling(input: &[u8], works: u64, first: usize) -> u64 {
     let mut receiver = seizing::receiver::fresh();
     let mut acc = crate::fold::FIRST;
-    let mut at = first;
-    let mut left = works;
-    while 0 < left {
-        left -= 1;
-        let item = crate::items::item_at(input, at, first);
-        at = item.end;
-        let octets = crate::items::octets_of(input, item);
+    let mut walk = crate::items::begin(works, first);
+    while 0 < walk.left {
+        walk = crate::items::next(input, walk, first);
+        let octets = crate::items::octets_of(input, walk);
         let answer = seizing::receiver::receive(receiver, octets);
         receiver = answer.receiver;
         acc = seized(acc, answer);

@@ -61,13 +61,10 @@ fn places(acc: u64, table: &[u16; 256]) -> u64 {
 // Each item read.
 pub fn read_each(input: &[u8], works: u64, first: usize, table: &mut [u16; 256], all: bool) -> u64 {
     let mut acc = crate::fold::FIRST;
-    let mut at = first;
-    let mut left = works;
-    while 0 < left {
-        left -= 1;
-        let item = crate::items::item_at(input, at, first);
-        at = item.end;
-        acc = read(acc, crate::items::octets_of(input, item), table, all);
+    let mut walk = crate::items::begin(works, first);
+    while 0 < walk.left {
+        walk = crate::items::next(input, walk, first);
+        acc = read(acc, crate::items::octets_of(input, walk), table, all);
     }
     acc
 }

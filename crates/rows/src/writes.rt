@@ -56,7 +56,7 @@ fn ended(acc: u64, frame: &[u8], at: usize) -> u64 {
     octet(acc, octets::octet(frame, at - 1))
 }
 
-// A frame of six sub-frames written into as much of the room as the item says, to the first refusal.
+// A frame of six sub-frames written into as much of the room as the item says, to the first refusal; the place after each is folded.
 fn write(acc: u64, room: &mut [u8], m: &[u8], table: &[u16; 256]) -> u64 {
     let n = crate::items::size(m, 0);
     if n < room.len() {
@@ -81,18 +81,13 @@ fn write_voice(acc: u64, frame: &mut [u8], m: &[u8], table: &[u16; 256]) -> u64 
         crate::items::part(m, 64, wide(octets::octet(m, 5))),
     );
     match answer {
-        Primary::PrimaryTaken(next) => write_digits(
-            fold(acc, next.at as u64),
-            next,
-            frame,
-            m,
-            table,
-        ),
+        Primary::PrimaryTaken(next) => write_digits(acc, next, frame, m, table),
         Primary::PrimaryRefused(number) => octet(acc, number),
     }
 }
 
-fn write_digits(acc: u64, writer: Writer, frame: &mut [u8], m: &[u8], table: &[u16; 256]) -> u64 {
+fn write_digits(said: u64, writer: Writer, frame: &mut [u8], m: &[u8], table: &[u16; 256]) -> u64 {
+    let acc = fold(said, writer.at as u64);
     let digits = Digits {
         sequence: DigitCount(octets::octet(m, 7)),
         level: crate::steps::level_in(octets::octet(m, 8)),
@@ -121,24 +116,19 @@ fn write_digits(acc: u64, writer: Writer, frame: &mut [u8], m: &[u8], table: &[u
         digits,
     );
     match answer {
-        Signalled::SignalledTaken(next) => write_signalling(
-            fold(acc, next.at as u64),
-            next,
-            frame,
-            m,
-            table,
-        ),
+        Signalled::SignalledTaken(next) => write_signalling(acc, next, frame, m, table),
         Signalled::SignalledRefused(number) => octet(acc, number),
     }
 }
 
 fn write_signalling(
-    acc: u64,
+    said: u64,
     writer: Writer,
     frame: &mut [u8],
     m: &[u8],
     table: &[u16; 256],
 ) -> u64 {
+    let acc = fold(said, writer.at as u64);
     let mut samples = [0u8; 30];
     octets::put_octets(&mut samples, 0, crate::items::part(m, 21, 30));
     let signalling = Signalling {
@@ -155,13 +145,7 @@ fn write_signalling(
         signalling,
     );
     match answer {
-        Signalled::SignalledTaken(next) => write_fax(
-            fold(acc, next.at as u64),
-            next,
-            frame,
-            m,
-            table,
-        ),
+        Signalled::SignalledTaken(next) => write_fax(acc, next, frame, m, table),
         Signalled::SignalledRefused(number) => octet(acc, number),
     }
 }
@@ -180,7 +164,8 @@ fn command(kind: u8, hdlc: bool, modulation: u8, frequency: u16) -> Command {
     }
 }
 
-fn write_fax(acc: u64, writer: Writer, frame: &mut [u8], m: &[u8], table: &[u16; 256]) -> u64 {
+fn write_fax(said: u64, writer: Writer, frame: &mut [u8], m: &[u8], table: &[u16; 256]) -> u64 {
+    let acc = fold(said, writer.at as u64);
     let stamp = if octets::octet(m, 53) % 2 == 0 {
         Stamp::NoStamp
     } else {
@@ -204,18 +189,13 @@ fn write_fax(acc: u64, writer: Writer, frame: &mut [u8], m: &[u8], table: &[u16;
         crate::items::part(m, 64, wide(octets::octet(m, 61))),
     );
     match answer {
-        Signalled::SignalledTaken(next) => write_sid(
-            fold(acc, next.at as u64),
-            next,
-            frame,
-            m,
-            table,
-        ),
+        Signalled::SignalledTaken(next) => write_sid(acc, next, frame, m, table),
         Signalled::SignalledRefused(number) => octet(acc, number),
     }
 }
 
-fn write_sid(acc: u64, writer: Writer, frame: &mut [u8], m: &[u8], table: &[u16; 256]) -> u64 {
+fn write_sid(said: u64, writer: Writer, frame: &mut [u8], m: &[u8], table: &[u16; 256]) -> u64 {
+    let acc = fold(said, writer.at as u64);
     let sid = if octets::octet(m, 63) == 1 {
         Sid::Plain
     } else {
@@ -233,18 +213,13 @@ fn write_sid(acc: u64, writer: Writer, frame: &mut [u8], m: &[u8], table: &[u16;
         sid,
     );
     match answer {
-        Signalled::SignalledTaken(next) => write_data(
-            fold(acc, next.at as u64),
-            next,
-            frame,
-            m,
-            table,
-        ),
+        Signalled::SignalledTaken(next) => write_data(acc, next, frame, m, table),
         Signalled::SignalledRefused(number) => octet(acc, number),
     }
 }
 
-fn write_data(acc: u64, writer: Writer, frame: &mut [u8], m: &[u8], table: &[u16; 256]) -> u64 {
+fn write_data(said: u64, writer: Writer, frame: &mut [u8], m: &[u8], table: &[u16; 256]) -> u64 {
+    let acc = fold(said, writer.at as u64);
     let answer = writer::primary::write_data(
         frame,
         writer,
@@ -272,14 +247,11 @@ pub fn write_each(
     all: bool,
 ) -> u64 {
     let mut acc = crate::fold::FIRST;
-    let mut at = first;
-    let mut left = works;
-    while 0 < left {
-        left -= 1;
-        let item = crate::items::item_at(input, at, first);
-        at = item.end;
-        crate::items::set_in(input, item, BODY, acc);
-        acc = write(acc, room, crate::items::octets_of(input, item), table);
+    let mut walk = crate::items::begin(works, first);
+    while 0 < walk.left {
+        walk = crate::items::next(input, walk, first);
+        crate::items::set_in(input, walk, BODY, acc);
+        acc = write(acc, room, crate::items::octets_of(input, walk), table);
         if all {
             acc = octets(acc, room);
         }

@@ -20,3 +20,4 @@ pub mod Seizing
 pub mod Trunk
 pub mod Listing
 pub mod Cabinet
+pub mod Console

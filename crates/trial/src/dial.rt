@@ -20,15 +20,6 @@ pub fn start_state() -> Dialling {
     }
 }
 
-// A signed octet: from 128 on it stands for 256 less.
-fn signed(octet: u8) -> i8 {
-    if octet < 128 {
-        return octet as i8;
-    }
-    let magnitude = 255 - octet + 1;
-    (0 - (magnitude as i16)) as i8
-}
-
 // `digit=`: who, type, code, edge, level.
 pub fn digit(dialling: Dialling, octets: &[u8]) -> Dialling {
     let sender = dialling.sender;
@@ -38,7 +29,7 @@ pub fn digit(dialling: Dialling, octets: &[u8]) -> Dialling {
             on: octets::octet(octets, 1) == 1,
             code: octets::octet(octets, 2),
             edge: octets::octet(octets, 3),
-            level: signed(octets::octet(octets, 4)),
+            level: console::hex::signed(octets::octet(octets, 4)),
         },
     );
     let after = taken.sender;
@@ -51,13 +42,13 @@ pub fn digit(dialling: Dialling, octets: &[u8]) -> Dialling {
     };
     let answer = taken.answer;
     match answer {
-        Sending::BadEntry(number) => crate::print::number(b"refused=", number as u64),
-        Sending::Unsent => crate::print::name(b"unsent="),
+        Sending::BadEntry(number) => console::print::number(b"refused=", number as u64),
+        Sending::Unsent => console::print::name(b"unsent="),
         Sending::Sent(sent) => {
             let mut payload = [0u8; 8];
             // It is written: crates/dialling/specs/SenderClaims.antt.
             digits::layout::put_digits(&mut payload, 0, sent);
-            crate::print::octets(b"sent=", &payload);
+            console::print::octets(b"sent=", &payload);
             return hear(now, octets, &payload);
         }
     }
@@ -67,12 +58,12 @@ pub fn digit(dialling: Dialling, octets: &[u8]) -> Dialling {
 // A window as it is printed: type, edge, code.
 fn window(name: &[u8], window: Window) {
     let kind: u8 = if window.on { 1 } else { 0 };
-    crate::print::octets(name, &[kind, window.edge, window.code]);
+    console::print::octets(name, &[kind, window.edge, window.code]);
 }
 
 // The carried periods.
 fn carried(count: u8, periods: [Window; 3]) {
-    crate::print::number(b"carried=", count as u64);
+    console::print::number(b"carried=", count as u64);
     if 0 < count {
         window(b"period=", periods[0]);
     }
@@ -86,14 +77,14 @@ fn carried(count: u8, periods: [Window; 3]) {
 
 // One receiver gets a payload.
 fn receive(number: u64, receiver: Receiver, payload: &[u8]) -> Receiver {
-    crate::print::number(b"receiver=", number);
+    console::print::number(b"receiver=", number);
     let received = dialling::receiver::receive(receiver, payload);
     let after = received.receiver;
     if received.number != refusal::SOUND {
-        crate::print::number(b"refused=", received.number as u64);
+        console::print::number(b"refused=", received.number as u64);
         return after;
     }
-    crate::print::number(b"filled=", received.fills as u64);
+    console::print::number(b"filled=", received.fills as u64);
     let fill = received.fill;
     window(b"with=", fill);
     let periods = received.periods;

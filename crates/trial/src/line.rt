@@ -10,55 +10,29 @@ pub enum Kind {
     Unknown,
 }
 
-// Whether a line starts with a key.
-fn starts(text: &[u8], key: &[u8]) -> bool {
-    let mut i: usize = 0;
-    while i < key.len() {
-        if octets::octet(text, i) != key[i] {
-            return false;
-        }
-        i += 1;
-    }
-    true
-}
-
 pub fn kind_of(text: &[u8]) -> Kind {
-    if starts(text, b"digit=") {
+    if octets::text::starts(text, b"digit=") {
         return Kind::Digit;
     }
-    if starts(text, b"start=") {
+    if octets::text::starts(text, b"start=") {
         return Kind::Start;
     }
-    if starts(text, b"samples=") {
+    if octets::text::starts(text, b"samples=") {
         return Kind::Samples;
     }
-    if starts(text, b"digits=") {
+    if octets::text::starts(text, b"digits=") {
         return Kind::Digits;
     }
-    if starts(text, b"signalling=") {
+    if octets::text::starts(text, b"signalling=") {
         return Kind::Signalling;
     }
-    if starts(text, b"voice=") {
+    if octets::text::starts(text, b"voice=") {
         return Kind::Voice;
     }
-    if starts(text, b"fresh=") {
+    if octets::text::starts(text, b"fresh=") {
         return Kind::Fresh;
     }
     Kind::Unknown
-}
-
-// How many characters the key has.
-pub fn key_size(kind: Kind) -> usize {
-    match kind {
-        Kind::Digit => 6,
-        Kind::Start => 6,
-        Kind::Samples => 8,
-        Kind::Digits => 7,
-        Kind::Signalling => 11,
-        Kind::Voice => 6,
-        Kind::Fresh => 6,
-        Kind::Unknown => 0,
-    }
 }
 
 // Whether a line of the kind has these octets: as many as it takes, and each in its range.

@@ -1,15 +1,12 @@
 // Sends digits and seizure bits, loses some payloads and replays the rest: lines in, answers out, as docs/TRIAL.md says.
 mod dial;
-mod hex;
-mod input;
 mod line;
-mod print;
 mod seize;
 
 use crate::dial::Dialling;
-use crate::input::Input;
 use crate::line::Kind;
 use crate::seize::Seizing;
+use console::input::Input;
 
 // The senders and receivers of both kinds.
 struct Parties {
@@ -25,7 +22,7 @@ struct Step {
 }
 
 fn malformed(number: u64) {
-    crate::print::number(b"malformed=", number);
+    console::print::number(b"malformed=", number);
 }
 
 // A well-formed line of a kind, its octets decoded.
@@ -69,7 +66,7 @@ fn take(kind: Kind, octets: &[u8], parties: Parties) -> Parties {
 fn answer(number: u64, text: &[u8], parties: Parties) -> Parties {
     let kind = crate::line::kind_of(text);
     let mut room = [0u8; 2000];
-    let decoded = crate::hex::decode(text, crate::line::key_size(kind), &mut room);
+    let decoded = console::hex::decode(text, console::key::size(text), &mut room);
     let size = decoded.size;
     if decoded.sound {
         if crate::line::fits(kind, &room[..size]) {
@@ -82,7 +79,7 @@ fn answer(number: u64, text: &[u8], parties: Parties) -> Parties {
 
 // One line of the input. A longer one than the room is malformed.
 fn turn(number: u64, block: &mut [u8], room: &mut [u8], input: Input, parties: Parties) -> Step {
-    let read = crate::input::read_line(block, room, input);
+    let read = console::input::read_line(block, room, input);
     let size = read.size;
     let after = read.input;
     if read.whole && size <= room.len() {
@@ -109,7 +106,7 @@ fn run(block: &mut [u8], room: &mut [u8]) {
         dialling: crate::dial::start_state(),
         seizing: crate::seize::start_state(),
     };
-    let mut input = crate::input::unread();
+    let mut input = Input { taken: 0, have: 0 };
     let mut number: u64 = 0;
     while number < u64::MAX {
         number += 1;

@@ -24,10 +24,10 @@ pub fn start_state() -> Seizing {
 pub fn start(seizing: Seizing, octets: &[u8]) -> Seizing {
     let started = seizing::sender::start(octets::octet(octets, 0));
     if started.number != refusal::SOUND {
-        crate::print::number(b"refused=", started.number as u64);
+        console::print::number(b"refused=", started.number as u64);
         return seizing;
     }
-    crate::print::name(b"started=");
+    console::print::name(b"started=");
     let sender = started.sender;
     let first = seizing.first;
     let second = seizing.second;
@@ -59,51 +59,51 @@ pub fn samples(seizing: Seizing, octets: &[u8]) -> Seizing {
         second,
     };
     if sent.number != refusal::SOUND {
-        crate::print::number(b"refused=", sent.number as u64);
+        console::print::number(b"refused=", sent.number as u64);
         return now;
     }
     if !sent.due {
-        crate::print::name(b"unsent=");
+        console::print::name(b"unsent=");
         return now;
     }
     let content = sent.signalling;
     let mut payload = [0u8; 16];
     // What is sent has sixteen octets, and no sample out of range.
     signalling::layout::put_signalling(&mut payload, 0, content);
-    crate::print::octets(b"sent=", &payload);
+    console::print::octets(b"sent=", &payload);
     hear(now, octets, &payload)
 }
 
 // The carried periods, of ten samples each.
 fn carried(count: u8, periods: &[u8; 30]) {
-    crate::print::number(b"carried=", count as u64);
+    console::print::number(b"carried=", count as u64);
     if 0 < count {
-        crate::print::part(b"period=", periods, 0, 10);
+        console::print::part(b"period=", periods, 0, 10);
     }
     if 1 < count {
-        crate::print::part(b"period=", periods, 10, 20);
+        console::print::part(b"period=", periods, 10, 20);
     }
     if 2 < count {
-        crate::print::part(b"period=", periods, 20, 30);
+        console::print::part(b"period=", periods, 20, 30);
     }
 }
 
 // One receiver gets a payload.
 fn receive(number: u64, receiver: Receiver, payload: &[u8]) -> Receiver {
-    crate::print::number(b"receiver=", number);
+    console::print::number(b"receiver=", number);
     let received = seizing::receiver::receive(receiver, payload);
     let after = received.receiver;
     if received.number != refusal::SOUND {
-        crate::print::number(b"refused=", received.number as u64);
+        console::print::number(b"refused=", received.number as u64);
         return after;
     }
-    crate::print::number(b"filled=", received.fills as u64);
-    crate::print::octets(b"with=", &[received.fill]);
+    console::print::number(b"filled=", received.fills as u64);
+    console::print::octets(b"with=", &[received.fill]);
     let periods = received.periods;
     carried(received.carried, &periods);
-    crate::print::number(b"value=", after.value as u64);
+    console::print::number(b"value=", after.value as u64);
     let alarm: u64 = if after.alarm { 1 } else { 0 };
-    crate::print::number(b"alarm=", alarm);
+    console::print::number(b"alarm=", alarm);
     after
 }
 

@@ -9,15 +9,6 @@ use fax::Stamp;
 use signalling::layout::Signalling;
 use voice::sid::Sid;
 
-// A signed octet: from 128 on it stands for 256 less.
-fn signed(octet: u8) -> i8 {
-    if octet < 128 {
-        return octet as i8;
-    }
-    let magnitude = 255 - octet + 1;
-    (0 - (magnitude as i16)) as i8
-}
-
 // The octets of a line from a place on.
 pub fn body<'a>(octets: &'a [u8], at: usize) -> &'a [u8] {
     if at <= octets.len() {
@@ -40,7 +31,7 @@ fn window(on: bool, edge: u8, code: u8) -> Window {
 pub fn digits(octets: &[u8]) -> Digits {
     Digits {
         sequence: DigitCount(octets::octet(octets, 2)),
-        level: signed(octets::octet(octets, 3)),
+        level: console::hex::signed(octets::octet(octets, 3)),
         current: window(
             set(octets, 4),
             octets::octet(octets, 5),
@@ -97,7 +88,7 @@ pub fn sid(octets: &[u8]) -> Sid {
     if set(octets, 2) {
         return Sid::Noise {
             sequence: VoiceCount(octets::octet(octets, 3)),
-            level: signed(octets::octet(octets, 4)),
+            level: console::hex::signed(octets::octet(octets, 4)),
         };
     }
     Sid::Plain

@@ -59,30 +59,6 @@ fn written_kind(text: &[u8]) -> Kind {
     Kind::Unknown
 }
 
-// How many characters the key has.
-pub fn key_size(kind: Kind) -> usize {
-    match kind {
-        Kind::Frame => 6,
-        Kind::Silence => 8,
-        Kind::Card => 5,
-        Kind::Room => 5,
-        Kind::Shown => 6,
-        Kind::Written(content) => content_key_size(content),
-        Kind::Unknown => 0,
-    }
-}
-
-fn content_key_size(content: Content) -> usize {
-    match content {
-        Content::Voice => 6,
-        Content::Digits => 7,
-        Content::Signalling => 11,
-        Content::Fax => 4,
-        Content::Sid => 4,
-        Content::Data => 5,
-    }
-}
-
 // A number of two octets, the high one first.
 pub fn pair(octets: &[u8], at: usize) -> u16 {
     if at < octets.len() {

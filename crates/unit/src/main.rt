@@ -1,14 +1,11 @@
 // Hands a voice card what frames have for it, and writes sub-frames into a lent frame: a provisioning text and lines in, answers out,
 // as docs/UNIT.md says.
 mod contents;
-mod hex;
-mod input;
 mod line;
-mod print;
 mod write;
 
-use crate::input::Input;
 use crate::line::Kind;
+use console::input::Input;
 use provisioning::text::TextAnswer;
 use writer::place::Writer;
 
@@ -28,15 +25,15 @@ struct Step {
 }
 
 fn malformed(number: u64) {
-    crate::print::number(b"malformed=", number);
+    console::print::number(b"malformed=", number);
 }
 
 // `card=`: cid.
 fn card<'a>(frame: &'a [u8], silence: &'a [u8], table: &[u16; 256], octets: &[u8]) {
     let mut source: u8 = 0;
     let handed = card::handing::hand(frame, silence, table, octets::octet(octets, 0), &mut source);
-    crate::print::number(b"source=", source as u64);
-    crate::print::octets(b"octets=", handed);
+    console::print::number(b"source=", source as u64);
+    console::print::octets(b"octets=", handed);
 }
 
 // Keeps octets at the start of a room that has them.
@@ -105,7 +102,7 @@ fn take(
             }
         }
         Kind::Shown => {
-            crate::print::octets(b"lent=", front(lent, stands.room));
+            console::print::octets(b"lent=", front(lent, stands.room));
             stands
         }
         Kind::Unknown => stands,
@@ -133,7 +130,7 @@ fn answer(
 ) -> Stands {
     let kind = crate::line::kind_of(text);
     let mut room = [0u8; 2000];
-    let decoded = crate::hex::decode(text, crate::line::key_size(kind), &mut room);
+    let decoded = console::hex::decode(text, console::key::size(text), &mut room);
     let size = decoded.size;
     if decoded.sound {
         if crate::line::fits(kind, &room[..size]) {
@@ -156,7 +153,7 @@ fn turn(
     lent: &mut [u8],
     stands: Stands,
 ) -> Step {
-    let read = crate::input::read_line(block, room, input);
+    let read = console::input::read_line(block, room, input);
     let size = read.size;
     let after = read.input;
     if read.whole && size <= room.len() {
@@ -220,11 +217,15 @@ fn main() {
     let end = recording::pieces::text_end(&block[..n]);
     match provisioning::text::read_text(front(&block, end), &mut table) {
         TextAnswer::Taken(_) => {
-            run(&mut block, &mut room, crate::input::behind(end, n), &table);
+            let input = Input {
+                taken: end,
+                have: n,
+            };
+            run(&mut block, &mut room, input, &table);
         }
         TextAnswer::Refused { number, line } => {
-            crate::print::number(b"text=", number as u64);
-            crate::print::number(b"line=", line as u64);
+            console::print::number(b"text=", number as u64);
+            console::print::number(b"line=", line as u64);
         }
     }
 }

@@ -8,14 +8,14 @@ use writer::signalled::Signalled;
 
 // Prints the writer after a sub-frame.
 fn taken(next: Writer) -> Writer {
-    crate::print::number(b"at=", next.at as u64);
-    crate::print::number(b"count=", next.count as u64);
-    crate::print::number(b"done=", next.done as u64);
+    console::print::number(b"at=", next.at as u64);
+    console::print::number(b"count=", next.count as u64);
+    console::print::number(b"done=", next.done as u64);
     next
 }
 
 fn refused(number: u8, writer: Writer) -> Writer {
-    crate::print::number(b"refused=", number as u64);
+    console::print::number(b"refused=", number as u64);
     writer
 }
 

@@ -1,4 +1,3 @@
-pub mod Order
 pub mod Sizes
 pub mod VoiceCases
 pub mod VoiceBack

@@ -23,7 +23,7 @@ use Rattle.voice.specs.declared.sid.SidRead.the-variants.{Silence, BadSi
 use Rattle.voice.specs.Voice.{voiceless}
 use Rattle.voice.specs.Sid.{sidOctets, sidIn, readRefusals, sidRead, magnitudeIn, writeRefusals, octetsFor, sidMade}
 use Rattle.voice.specs.Claims.{SidReadsBack, SidMadeAgain, SidReadAlike, unreserved}
-use Rattle.voice.proofs.Order.{Passes, passed}
+use Rattle.refusal.proofs.Order.{Passes, passed}
 use Rattle.voice.proofs.SidCases as cases
 
 two-or-none : (syntax : Syntax) → (sidOctets syntax ≡ 0 → ⊥) → sidOctets syntax ≡ 2

@@ -16,7 +16,7 @@ use Rattle.voice.specs.declared.sid.Sid.{Sid}
 use Rattle.voice.specs.declared.sid.Sid.the-variants.{Noise}
 use Rattle.voice.specs.declared.sid.SidRead.the-variants.{Silence, BadSid}
 use Rattle.voice.specs.Sid.{sidIn, readRefusals, sidRead, outOfRange, magnitudeIn, writeRefusals, octetsFor, sidMade}
-use Rattle.voice.proofs.Order.{Stops, Passes, stopped, sounds, passed}
+use Rattle.refusal.proofs.Order.{Stops, Passes, stopped, sounds, passed}
 
 module _ (syntax : Syntax) (payload : List ℕ) where
   pub stops : {number : ℕ} → Stops (readRefusals syntax payload) number → sidRead syntax payload ≡ BadSid number

@@ -14,7 +14,7 @@ use Rattle.record.specs.declared.syntax.Record.{Record}
 use Rattle.voice.specs.declared.voice.VoiceRead.the-variants.{Voice, BadVoice}
 use Rattle.voice.specs.Voice.{frontOf, sequenceIn, codingIn, bodyIn, bodyRefusals, readRefusals, voiceRead, mostSequence, frontOctets, voiceMade}
 use Rattle.voice.specs.Claims.{VoiceReadsBack, VoiceMadeAgain}
-use Rattle.voice.proofs.Order.{Passes, sounds, passed}
+use Rattle.refusal.proofs.Order.{Passes, sounds, passed}
 use Rattle.voice.proofs.Sizes as sizes
 use Rattle.voice.proofs.VoiceCases as cases
 

@@ -15,7 +15,7 @@ use Rattle.octets.specs.Made.{made, unmade}
 use Rattle.record.specs.declared.syntax.Record.{Record}
 use Rattle.voice.specs.declared.voice.VoiceRead.the-variants.{Voice, BadVoice}
 use Rattle.voice.specs.Voice.{codings, blockOctets, bothFlags, g7231Octets, isG7231, bodyOctets, frontOf, deciding, frontOctet, sequenceIn, codingIn, bodyIn, voiceless, bodyRefusals, voiceRead, mostSequence, writeRefusals, frontOctets, voiceMade}
-use Rattle.voice.proofs.Order.{Stops, here, past, Passes, stopped, sounds, passed, numberOf, by-number}
+use Rattle.refusal.proofs.Order.{Stops, here, past, Passes, stopped, sounds, passed, numberOf, by-number}
 use Rattle.voice.proofs.Sizes as sizes
 
 tells : (r : Record) (coding : ℕ) (body : List ℕ) {number : ℕ} → Stops (bodyRefusals r coding body) number → numberOf (bodyRefusals r coding body) ≡ number

@@ -7,7 +7,7 @@ use lib.ListN.{length, length-append}
 use Rattle.octets.specs.declared.Fit.the-variants.{Octets}
 use Rattle.octets.specs.Made.{fitOf}
 use Rattle.fax.specs.Fax.{headOctets, unstamped, bodySized, refusedOn}
-use Rattle.fax.proofs.Order.{here, past}
+use Rattle.refusal.proofs.Order.{here, past}
 use Rattle.fax.proofs.FaxCases as cases
 use borrow.Author.Needs.{needs}
 use Rattle.fax.proofs.fit_fax.Statement.{statement}

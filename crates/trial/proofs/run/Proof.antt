@@ -14,13 +14,10 @@ abbrev μ-loop : tie.MeasureT-loop
 μ-loop block₀ room₀ parties₀ input₀ number₀ block room parties input number = 2 ^ 64 - number
 
 start-state-requires : tie.Need-start-state-requires Inv-loop μ-loop
-start-state-requires c κs = tt
+start-state-requires c κs = search needs
 
 start-state-requires-2 : tie.Need-start-state-requires-2 Inv-loop μ-loop
-start-state-requires-2 c κs = tt
-
-unread-requires : tie.Need-unread-requires Inv-loop μ-loop
-unread-requires c κs = tt
+start-state-requires-2 c κs = search needs
 
 loop-holds : tie.Need-loop-holds Inv-loop μ-loop
 loop-holds c = search needs
@@ -29,7 +26,7 @@ add-number : tie.Need-add-number Inv-loop μ-loop
 add-number c = omega arith
 
 turn-requires : tie.Need-turn-requires Inv-loop μ-loop
-turn-requires c κs = tt
+turn-requires c κs = search needs
 
 same-length : tie.Need-same-length Inv-loop μ-loop
 same-length c = search needs
@@ -38,7 +35,7 @@ same-length-2 : tie.Need-same-length-2 Inv-loop μ-loop
 same-length-2 c = search needs
 
 returns : tie.Need-returns Inv-loop μ-loop
-returns c = tt
+returns c = search needs
 
 loop-less : tie.Need-loop-less Inv-loop μ-loop
 loop-less c = omega arith
@@ -53,7 +50,7 @@ same-length-4 : tie.Need-same-length-4 Inv-loop μ-loop
 same-length-4 c = search needs
 
 returns-2 : tie.Need-returns-2 Inv-loop μ-loop
-returns-2 c = tt
+returns-2 c = search needs
 
 pub run-spec : {M : Type 1} → statement M
 run-spec =
@@ -63,7 +60,6 @@ run-spec =
     μ-loop
     start-state-requires
     start-state-requires-2
-    unread-requires
     loop-holds
     add-number
     turn-requires

@@ -14,11 +14,11 @@ Inv-loop s with i₀ i = (i ≤ length with) × (starts s with ≡ starts (drop 
 abbrev μ-loop : tie.MeasureT-loop
 μ-loop s with i₀ i = length with - i
 
+returns : tie.Need-returns Inv-loop μ-loop
+returns c = sym (values.short _ _ (c .if1 .taken))
+
 loop-holds : tie.Need-loop-holds Inv-loop μ-loop
 loop-holds c = (search needs, refl)
-
-returns : tie.Need-returns Inv-loop μ-loop
-returns c = sym (c .before .before .loop .inv .1 ∙ values.short _ _ _ (c .before .loop-test .taken) (c .if1 .taken))
 
 shared-slice-read-if2 : tie.Need-shared-slice-read-if2 Inv-loop μ-loop
 shared-slice-read-if2 c = search needs
@@ -28,8 +28,8 @@ shared-slice-read-if2-2 c = search needs
 
 returns-2 : tie.Need-returns-2 Inv-loop μ-loop
 returns-2 c =
-    sym (c .before .before .before .before .before .loop .inv .1 ∙ values.differs _ _ _ (c .before .before .before .before .loop-test .taken)
-    (c .before .before .before .if1 .left) (c .if2 .taken))
+    sym (c .before .before .before .before .loop .inv .1 ∙ values.differs _ _ _ (c .before .before .before .loop-test .taken) (search needs)
+    (c .if2 .taken))
 
 add-i : tie.Need-add-i Inv-loop μ-loop
 add-i c = search needs
@@ -40,8 +40,7 @@ loop-less c = search needs
 loop-again : tie.Need-loop-again Inv-loop μ-loop
 loop-again c = (
   search needs,
-  c .before .before .before .before .before .loop .inv .1 ∙ values.agrees _ _ _ (c .before .before .before .before .loop-test .taken)
-      (c .before .before .before .if1 .left) (c .if2 .left),
+  c .before .before .before .before .loop .inv .1 ∙ values.agrees _ _ _ (c .before .before .before .loop-test .taken) (search needs) (c .if2 .left),
 )
 
 returns-3 : tie.Need-returns-3 Inv-loop μ-loop
@@ -53,8 +52,8 @@ starts-spec =
     (tie.spec
     Inv-loop
     μ-loop
-    loop-holds
     returns
+    loop-holds
     shared-slice-read-if2
     shared-slice-read-if2-2
     returns-2

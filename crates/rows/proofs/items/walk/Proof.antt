@@ -1,40 +1,40 @@
 -- `rows::items::walk` is safe and ends.
-use native.Mathlib.Omega.{arith}
+use borrow.Author.Needs.{needs}
 use Rattle.rows.proofs.items.walk.Statement.{statement}
 use Rattle.rows.proofs.items.walk.Tie as tie
 
 abbrev Inv-loop : tie.InvT-loop
-Inv-loop input works first acc₀ at₀ left₀ acc at left = Unit {0}
+Inv-loop input works first acc₀ walk₀ acc walk = Unit {0}
 
 abbrev μ-loop : tie.MeasureT-loop
-μ-loop input works first acc₀ at₀ left₀ acc at left = left
+μ-loop input works first acc₀ walk₀ acc walk = walk .left
+
+begin-requires : tie.Need-begin-requires Inv-loop μ-loop
+begin-requires c κs = search needs
 
 loop-holds : tie.Need-loop-holds Inv-loop μ-loop
-loop-holds c = tt
+loop-holds c = search needs
 
-sub-left : tie.Need-sub-left Inv-loop μ-loop
-sub-left c = omega arith
-
-item-at-requires : tie.Need-item-at-requires Inv-loop μ-loop
-item-at-requires c κs = tt
+next-requires : tie.Need-next-requires Inv-loop μ-loop
+next-requires c κs = search needs
 
 octets-of-requires : tie.Need-octets-of-requires Inv-loop μ-loop
-octets-of-requires c κs = tt
+octets-of-requires c κs = search needs
 
 octet-requires : tie.Need-octet-requires Inv-loop μ-loop
-octet-requires c κs = tt
+octet-requires c κs = search needs
 
 octet-requires-2 : tie.Need-octet-requires-2 Inv-loop μ-loop
-octet-requires-2 c κs = tt
+octet-requires-2 c κs = search needs
 
 loop-less : tie.Need-loop-less Inv-loop μ-loop
-loop-less c = omega arith
+loop-less c = search needs
 
 loop-again : tie.Need-loop-again Inv-loop μ-loop
-loop-again c = tt
+loop-again c = search needs
 
 returns : tie.Need-returns Inv-loop μ-loop
-returns c = tt
+returns c = search needs
 
 pub walk-spec : {M : Type 1} → statement M
 walk-spec =
@@ -42,9 +42,9 @@ walk-spec =
     (tie.spec
     Inv-loop
     μ-loop
+    begin-requires
     loop-holds
-    sub-left
-    item-at-requires
+    next-requires
     octets-of-requires
     octet-requires
     octet-requires-2

@@ -1,46 +1,46 @@
 -- `rows::steps::send_signalling` is safe and ends.
-use native.Mathlib.Omega.{arith}
+use borrow.Author.Needs.{needs}
 use Rattle.rows.proofs.steps.send_signalling.Statement.{statement}
 use Rattle.rows.proofs.steps.send_signalling.Tie as tie
 
 abbrev Inv-loop : tie.InvT-loop
-Inv-loop input works first sender₀ acc₀ at₀ left₀ sender acc at left = Unit {0}
+Inv-loop input works first sender₀ acc₀ walk₀ sender acc walk = Unit {0}
 
 abbrev μ-loop : tie.MeasureT-loop
-μ-loop input works first sender₀ acc₀ at₀ left₀ sender acc at left = left
+μ-loop input works first sender₀ acc₀ walk₀ sender acc walk = walk .left
 
 start-requires : tie.Need-start-requires Inv-loop μ-loop
-start-requires c κs = tt
+start-requires c κs = search needs
+
+begin-requires : tie.Need-begin-requires Inv-loop μ-loop
+begin-requires c κs = search needs
 
 loop-holds : tie.Need-loop-holds Inv-loop μ-loop
-loop-holds c = tt
+loop-holds c = search needs
 
-sub-left : tie.Need-sub-left Inv-loop μ-loop
-sub-left c = omega arith
-
-item-at-requires : tie.Need-item-at-requires Inv-loop μ-loop
-item-at-requires c κs = tt
+next-requires : tie.Need-next-requires Inv-loop μ-loop
+next-requires c κs = search needs
 
 octets-of-requires : tie.Need-octets-of-requires Inv-loop μ-loop
-octets-of-requires c κs = tt
+octets-of-requires c κs = search needs
 
 signalling-entry-requires : tie.Need-signalling-entry-requires Inv-loop μ-loop
-signalling-entry-requires c κs = tt
+signalling-entry-requires c κs = search needs
 
 send-requires : tie.Need-send-requires Inv-loop μ-loop
-send-requires c κs = tt
+send-requires c κs = search needs
 
 sent-requires : tie.Need-sent-requires Inv-loop μ-loop
-sent-requires c κs = tt
+sent-requires c κs = search needs
 
 loop-less : tie.Need-loop-less Inv-loop μ-loop
-loop-less c = omega arith
+loop-less c = search needs
 
 loop-again : tie.Need-loop-again Inv-loop μ-loop
-loop-again c = tt
+loop-again c = search needs
 
 returns : tie.Need-returns Inv-loop μ-loop
-returns c = tt
+returns c = search needs
 
 pub send-signalling-spec : {M : Type 1} → statement M
 send-signalling-spec =
@@ -49,9 +49,9 @@ send-signalling-spec =
     Inv-loop
     μ-loop
     start-requires
+    begin-requires
     loop-holds
-    sub-left
-    item-at-requires
+    next-requires
     octets-of-requires
     signalling-entry-requires
     send-requires

@@ -1,46 +1,45 @@
 -- `rows::writes::write_each` is safe and ends.
 use mathlib.Core.Path.{_≡_}
 use lib.ListN.{length}
-use native.Mathlib.Omega.{arith}
 use borrow.Author.Needs.{needs}
 use Rattle.rows.proofs.writes.write_each.Statement.{statement}
 use Rattle.rows.proofs.writes.write_each.Tie as tie
 
 abbrev Inv-loop : tie.InvT-loop
-Inv-loop input₀ works first table room₀ all acc₀ at₀ left₀ input room acc at left = (length input ≡ length input₀) × (length room ≡ length room₀)
+Inv-loop input₀ works first table room₀ all acc₀ walk₀ input room acc walk = (length input ≡ length input₀) × (length room ≡ length room₀)
 
 abbrev μ-loop : tie.MeasureT-loop
-μ-loop input₀ works first table room₀ all acc₀ at₀ left₀ input room acc at left = left
+μ-loop input₀ works first table room₀ all acc₀ walk₀ input room acc walk = walk .left
+
+begin-requires : tie.Need-begin-requires Inv-loop μ-loop
+begin-requires c κs = search needs
 
 loop-holds : tie.Need-loop-holds Inv-loop μ-loop
 loop-holds c = (search needs, search needs)
 
-sub-left : tie.Need-sub-left Inv-loop μ-loop
-sub-left c = omega arith
-
-item-at-requires : tie.Need-item-at-requires Inv-loop μ-loop
-item-at-requires c κs = tt
+next-requires : tie.Need-next-requires Inv-loop μ-loop
+next-requires c κs = search needs
 
 set-in-requires : tie.Need-set-in-requires Inv-loop μ-loop
-set-in-requires c κs = tt
+set-in-requires c κs = search needs
 
 octets-of-requires : tie.Need-octets-of-requires Inv-loop μ-loop
-octets-of-requires c κs = tt
+octets-of-requires c κs = search needs
 
 write-requires : tie.Need-write-requires Inv-loop μ-loop
-write-requires c κs = tt
+write-requires c κs = search needs
 
 octets-requires : tie.Need-octets-requires Inv-loop μ-loop
-octets-requires c κs = tt
+octets-requires c κs = search needs
 
 loop-less : tie.Need-loop-less Inv-loop μ-loop
-loop-less c = omega arith
+loop-less c = search needs
 
 loop-again : tie.Need-loop-again Inv-loop μ-loop
 loop-again c = (search needs, search needs)
 
 loop-less-2 : tie.Need-loop-less-2 Inv-loop μ-loop
-loop-less-2 c = omega arith
+loop-less-2 c = search needs
 
 loop-again-2 : tie.Need-loop-again-2 Inv-loop μ-loop
 loop-again-2 c = (search needs, search needs)
@@ -52,7 +51,7 @@ same-length-2 : tie.Need-same-length-2 Inv-loop μ-loop
 same-length-2 c = search needs
 
 returns : tie.Need-returns Inv-loop μ-loop
-returns c = tt
+returns c = search needs
 
 pub write-each-spec : {M : Type 1} → statement M
 write-each-spec =
@@ -60,9 +59,9 @@ write-each-spec =
     (tie.spec
     Inv-loop
     μ-loop
+    begin-requires
     loop-holds
-    sub-left
-    item-at-requires
+    next-requires
     set-in-requires
     octets-of-requires
     write-requires

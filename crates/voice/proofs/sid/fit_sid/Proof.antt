@@ -11,7 +11,7 @@ use Rattle.octets.specs.Made.{fitOf}
 use Rattle.voice.specs.declared.sid.Sid.the-variants.{Noise, Plain}
 use Rattle.voice.specs.Voice.{codings, voiceless}
 use Rattle.voice.specs.Sid.{sidOctets, outOfRange, sidMade}
-use Rattle.voice.proofs.Order.{here, past}
+use Rattle.refusal.proofs.Order.{here, past}
 use Rattle.voice.proofs.SidCases as cases
 use borrow.Author.Needs.{needs}
 use Rattle.voice.proofs.sid.fit_sid.Statement.{statement}

@@ -13,7 +13,7 @@ use Rattle.voice.specs.declared.sid.Sid.the-variants.{Noise}
 use Rattle.voice.specs.declared.sid.SidRead.the-variants.{Silence}
 use Rattle.voice.specs.Voice.{codings, voiceless}
 use Rattle.voice.specs.Sid.{sidOctets}
-use Rattle.voice.proofs.Order.{here, past}
+use Rattle.refusal.proofs.Order.{here, past}
 use Rattle.voice.proofs.SidCases as cases
 use borrow.Author.Needs.{needs}
 use Rattle.voice.proofs.sid.read_sid.Statement.{statement}
