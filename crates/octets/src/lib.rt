@@ -5,8 +5,7 @@ ghost use mathlib.Core.Path.{_≡_};
 ghost use mathlib.Core.List.{_++_};
 ghost use Prim.Native.Nat.{_+_, _*_, _≤_, min};
 ghost use lib.ListN.{length};
-ghost use mathlib.Core.Bool.{cond};
-ghost use lib.Dec.{ltb, eqb};
+ghost use lib.Dec.{ltb};
 ghost use lib.ListN.{getD};
 ghost use Rattle.octets.specs.Room.{put, written, leftBy};
 
@@ -36,13 +35,6 @@ pub fn octet(octets: &[u8], at: usize) -> u8
     ensures { λ r. ⌜ r ≡ getD (now (octets .entry)) at 0 ⌝ }
 {
     if at < octets.len() { octets[at] } else { 0 }
-}
-
-// An octet that is there exactly when a number is not 0, and 0 without it.
-pub fn octet_where(present: usize, octet: u8) -> u8
-    ensures { λ r. ⌜ r ≡ cond (eqb present 0) 0 octet ⌝ }
-{
-    if present == 0 { 0 } else { octet }
 }
 
 // What a layout makes of a content: as many octets, or the refusal number.

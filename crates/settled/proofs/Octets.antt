@@ -10,8 +10,6 @@ use Rattle.octets.proofs.least.Kinds as least-kinds
 use Rattle.octets.proofs.least.Reads as least-reads
 use Rattle.octets.proofs.octet.Kinds as octet-kinds
 use Rattle.octets.proofs.octet.Reads as octet-reads
-use Rattle.octets.proofs.octet_where.Kinds as octet-where-kinds
-use Rattle.octets.proofs.octet_where.Reads as octet-where-reads
 use Rattle.octets.proofs.exceeds.Kinds as exceeds-kinds
 use Rattle.octets.proofs.exceeds.Reads as exceeds-reads
 use Rattle.octets.proofs.put_octets.Kinds as put-octets-kinds
@@ -34,9 +32,6 @@ least κs a x y s t p q = (p ∙ sym q, refl)
 
 pub octet : OneAnswer 1 octet-kinds.ps octet-kinds.r nothing octet-reads.Post
 octet κs a x y s t p q = (p ∙ sym q, refl)
-
-pub octet-where : OneAnswer 0 octet-where-kinds.ps octet-where-kinds.r nothing octet-where-reads.Post
-octet-where κs a x y s t p q = (p ∙ sym q, refl)
 
 pub exceeds : OneAnswer 0 exceeds-kinds.ps exceeds-kinds.r nothing exceeds-reads.Post
 exceeds κs a x y s t p q = (p ∙ sym q, refl)

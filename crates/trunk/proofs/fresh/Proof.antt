@@ -2,7 +2,6 @@
 use borrow.Author.Needs.{needs}
 use Rattle.trunk.proofs.fresh.Statement.{statement}
 use Rattle.trunk.proofs.fresh.Tie as tie
-use Rattle.seizing.proofs.receiver.fresh.Reads as receiver-fresh-reads′
 
 fresh-requires : tie.Need-fresh-requires
 fresh-requires c κs = search needs

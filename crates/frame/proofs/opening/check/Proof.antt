@@ -6,7 +6,7 @@ use borrow.Author.Needs.{needs}
 use native.Mathlib.Omega.{arith}
 use lib.ListN.{length}
 use Rattle.frame.specs.declared.opening.Checked.{Checked}
-use Rattle.frame.specs.Opening.{Opening, scanned, opening, checked}
+use Rattle.frame.specs.Opening.{scanned, opening, checked}
 use Rattle.frame.proofs.OpeningTurns as turns
 use Rattle.frame.proofs.opening.check.Statement.{statement}
 use Rattle.frame.proofs.opening.check.Tie as tie

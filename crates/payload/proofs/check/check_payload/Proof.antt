@@ -4,15 +4,6 @@ use mathlib.Core.Path.{sym}
 use Rattle.payload.proofs.CheckCases as cases
 use Rattle.payload.proofs.check.check_payload.Statement.{statement}
 use Rattle.payload.proofs.check.check_payload.Tie as tie
-use Rattle.payload.proofs.check.check_payload.Reads as reads
-use Rattle.payload.proofs.check.check_payload.Lts as lts
-use Rattle.data.proofs.read_data.Reads as read-data-reads
-use Rattle.digits.proofs.layout.read_digits.Reads as read-digits-reads
-use Rattle.fax.proofs.read_fax.Reads as read-fax-reads
-use Rattle.payload.proofs.layout.layout_of.Reads as layout-of-reads
-use Rattle.signalling.proofs.layout.read_signalling.Reads as read-signalling-reads
-use Rattle.voice.proofs.sid.read_sid.Reads as read-sid-reads
-use Rattle.voice.proofs.voice.read_voice.Reads as read-voice-reads
 
 layout-of-requires : tie.Need-layout-of-requires
 layout-of-requires c κs = search needs

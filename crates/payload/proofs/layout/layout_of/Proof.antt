@@ -5,12 +5,6 @@ use Rattle.payload.specs.Layout.{layoutOf}
 use Rattle.payload.proofs.LayoutCases as cases
 use Rattle.payload.proofs.layout.layout_of.Statement.{statement}
 use Rattle.payload.proofs.layout.layout_of.Tie as tie
-use Rattle.payload.proofs.layout.layout_of.Reads as reads
-use Rattle.payload.proofs.layout.layout_of.Lts as lts
-use Rattle.payload.proofs.layout.family_of.Reads as family-of-reads
-use Rattle.payload.proofs.layout.on_data.Reads as on-data-reads
-use Rattle.payload.proofs.layout.on_fax.Reads as on-fax-reads
-use Rattle.payload.proofs.layout.on_voice.Reads as on-voice-reads
 
 enum-known-found : tie.Need-enum-known-found
 enum-known-found c = search needs

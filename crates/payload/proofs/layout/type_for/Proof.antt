@@ -5,10 +5,6 @@ use Rattle.payload.specs.Layout.{typeFor}
 use Rattle.payload.proofs.LayoutCases as cases
 use Rattle.payload.proofs.layout.type_for.Statement.{statement}
 use Rattle.payload.proofs.layout.type_for.Tie as tie
-use Rattle.payload.proofs.layout.type_for.Reads as reads
-use Rattle.payload.proofs.layout.type_for.Lts as lts
-use Rattle.payload.proofs.layout.family_of.Reads as family-of-reads
-use Rattle.payload.proofs.layout.type_in.Reads as type-in-reads
 
 enum-known-found : tie.Need-enum-known-found
 enum-known-found c = search needs

@@ -4,8 +4,6 @@ use mathlib.Core.Path.{sym}
 use Rattle.payload.proofs.LayoutCases as cases
 use Rattle.payload.proofs.layout.type_in.Statement.{statement}
 use Rattle.payload.proofs.layout.type_in.Tie as tie
-use Rattle.payload.proofs.layout.type_in.Reads as reads
-use Rattle.payload.proofs.layout.type_in.Lts as lts
 
 enum-told : tie.Need-enum-told
 enum-told c = search needs
