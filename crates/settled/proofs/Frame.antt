@@ -11,6 +11,8 @@ use Rattle.frame.proofs.joining.header_size.Kinds as joining-header-size-kinds
 use Rattle.frame.proofs.joining.header_size.Reads as joining-header-size-reads
 use Rattle.frame.proofs.joining.put_header.Kinds as joining-put-header-kinds
 use Rattle.frame.proofs.joining.put_header.Reads as joining-put-header-reads
+use Rattle.frame.proofs.opening.field_fits.Kinds as opening-field-fits-kinds
+use Rattle.frame.proofs.opening.field_fits.Reads as opening-field-fits-reads
 use Rattle.frame.proofs.opening.scan_from.Kinds as opening-scan-from-kinds
 use Rattle.frame.proofs.opening.scan_from.Reads as opening-scan-from-reads
 use Rattle.frame.proofs.opening.check.Kinds as opening-check-kinds
@@ -35,6 +37,9 @@ joining-header-size κs a x y s t p q = (p ∙ sym q, refl)
 
 pub joining-put-header : OneAnswer 1 joining-put-header-kinds.ps joining-put-header-kinds.r (λ κs s. now (s .0)) joining-put-header-reads.Post
 joining-put-header κs a x y s t p q = (p .0 ∙ sym (q .0), cc)
+
+pub opening-field-fits : OneAnswer 1 opening-field-fits-kinds.ps opening-field-fits-kinds.r nothing opening-field-fits-reads.Post
+opening-field-fits κs a x y s t p q = (p ∙ sym q, refl)
 
 pub opening-scan-from : OneAnswer 1 opening-scan-from-kinds.ps opening-scan-from-kinds.r nothing opening-scan-from-reads.Post
 opening-scan-from κs a x y s t p q = (p ∙ sym q, refl)

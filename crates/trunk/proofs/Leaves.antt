@@ -14,7 +14,7 @@ use Rattle.voice.specs.declared.sid.SidRead.{SidRead}
 use Rattle.voice.specs.declared.sid.SidRead.the-variants.{Silence, BadSid}
 use Rattle.voice.specs.Voice.{readRefusals, voiceRead}
 use Rattle.voice.specs.Sid.{sidRead}
-use Rattle.voice.proofs.Order as order
+use Rattle.refusal.proofs.Order as order
 use Rattle.data.specs.declared.DataRead.{DataRead}
 use Rattle.data.specs.declared.DataRead.the-variants.{Fragment, BadData}
 use Rattle.data.specs.Data.{dataRead}
