@@ -82,7 +82,7 @@ small-typed Unprovisioned kind ptype is = subst (atMost 4) is tt
 refused-not : {A : Type 0} (n ptype : ℕ) (r : Record) → TakesNot n ≡ Takes r ptype → A
 refused-not n ptype r e = let z : _≡_ {A = ℕ} 0 1 = cc in absurd (omega arith)
 
-pub same-channel : (r s : Record) (a b : ℕ) → Takes r a ≡ Takes s b → (r ≡ s) × (a ≡ b)
+same-channel : (r s : Record) (a b : ℕ) → Takes r a ≡ Takes s b → (r ≡ s) × (a ≡ b)
 same-channel r s a b e = (cc, cc)
 
 -- what is known of a sub-channel that takes a content

@@ -140,7 +140,7 @@ pub(crate) fn enter(
     }
 }
 
-// Writes the header before a payload of so many octets.
+// Writes the header before a payload of so many octets: where it tells their number, that is at most 255.
 pub(crate) fn lead(
     frame: &mut [u8],
     writer: Writer,
