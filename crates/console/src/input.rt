@@ -1,5 +1,9 @@
 // Standard input, line by line.
 use octets::text::LF;
+ghost use mathlib.Core.Path.{_≡_};
+ghost use mathlib.Core.Bool.{false};
+ghost use lib.ListN.{take, set};
+ghost use Rattle.octets.specs.Text.{hasLf};
 
 // How much of the block that was read last is taken, and how much it has.
 pub struct Input {
@@ -44,14 +48,18 @@ fn next_character(block: &mut [u8], input: Input) -> Next {
 }
 
 // Keeps a character at a place, where the room has it.
-fn keep(room: &mut [u8], at: usize, character: u8) {
+fn keep(room: &mut [u8], at: usize, character: u8)
+    ensures { λ r. ⌜ now (room .exit) ≡ set (now (room .entry)) at character ⌝ }
+{
     if at < room.len() {
         room[at] = character;
     }
 }
 
-// Reads a line. A longer one than the room is read to its end; none uses the count up.
-pub fn read_line(block: &mut [u8], room: &mut [u8], input: Input) -> Line {
+// Reads a line. A longer one than the room is read to its end; none uses the count up. What the room has of it has no LF.
+pub fn read_line(block: &mut [u8], room: &mut [u8], input: Input) -> Line
+    ensures { λ r. ⌜ hasLf (take (r .size) (now (room .exit))) ≡ false ⌝ }
+{
     let mut now = input;
     let mut size: usize = 0;
     while size < usize::MAX {
