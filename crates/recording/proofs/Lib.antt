@@ -9,3 +9,4 @@ pub mod Walks
 pub mod Joins
 pub mod LineStart
 pub mod TextStart
+pub mod InputStart
