@@ -1,1 +1,4 @@
+pub mod Lines
+pub mod Turns
+pub mod StreamTurns
 pub mod Examples

@@ -1,1 +1,3 @@
 pub mod Following
+pub mod Stream
+pub mod Private

@@ -1,4 +1,3 @@
-pub mod Chain
 pub mod Listings
 pub mod SubsTurns
 pub mod StreamTurns
