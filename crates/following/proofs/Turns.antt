@@ -18,7 +18,7 @@ use Rattle.record.specs.Record.{foundAt}
 use Rattle.recording.specs.declared.line.Read.{Read}
 use Rattle.recording.specs.Line.{Held, octets, lineRead, inRoom, readOf, octetsOf}
 use Rattle.recording.specs.Line.{refused as refusedLine}
-use Rattle.recording.specs.Walk.{Told, nothing}
+use Rattle.recording.specs.Walk.{Told, nothing, behind}
 use Rattle.recording.proofs.LineCases as cases
 use Rattle.recording.proofs.LineCases.{Fair}
 use Rattle.trunk.specs.declared.Trunk.{Trunk}
@@ -28,7 +28,7 @@ use Rattle.printing.specs.Refused.{refusedListing}
 use Rattle.printing.specs.Room.{Appended}
 use Rattle.printing.proofs.Appending as appending
 use Rattle.following.specs.declared.following.Shown.{Shown}
-use Rattle.following.specs.Following.{before, subLines, subTold, subFollowing, subsFollowing, refusing, openedFollowing, frameFollowing, readFollowing, lineFollowing}
+use Rattle.following.specs.Following.{subLines, subTold, subFollowing, subsFollowing, refusing, openedFollowing, frameFollowing, readFollowing, lineFollowing}
 use Rattle.following.specs.Private.{Stands, followingOf}
 
 -- what stands, where the same is told
@@ -62,24 +62,24 @@ module _ (n : ℕ) (table : List ℕ) (cid : ℕ) (s : List ℕ) where
         let tells : told ≡ taken t (foundAt table cid) (sub .ptype) (take (sub .len) (drop (sub .start) s)) = is ∙ rw (f, size) in
         stands-as (record { text = p; leaves = refl }) (ap (subTold n sub) tells ∙ simp (eq-eqb (sub .cid) cid h))
 
-  before-twice : (a : List ℕ) (b : List ℕ) (told : Told Trunk) → before a (before b told) ≡ before (a ++ b) told
-  before-twice a b told = ap (λ (l : List ℕ). record { text = l; state = told .state }) (sym (append-assoc a b (told .text)))
+  behind-twice : (a : List ℕ) (b : List ℕ) (told : Told Trunk) → behind a (behind b told) ≡ behind (a ++ b) told
+  behind-twice a b told = ap (λ (l : List ℕ). record { text = l; state = told .state }) (sym (append-assoc a b (told .text)))
 
   subs-append :
       (xs ys : List SubFrame) (t : Trunk)
       → subsFollowing n table cid s (xs ++ ys) t
-      ≡ before (subsFollowing n table cid s xs t .text) (subsFollowing n table cid s ys (subsFollowing n table cid s xs t .state))
+      ≡ behind (subsFollowing n table cid s xs t .text) (subsFollowing n table cid s ys (subsFollowing n table cid s xs t .state))
   unfolding subsFollowing
   subs-append [] ys t = refl
   subs-append (x ∷ xs) ys t =
       let first : Told Trunk = subFollowing n table cid s x t in
-      ap (before (first .text)) (subs-append xs ys (first .state)) ∙ before-twice (first .text) _ _
+      ap (behind (first .text)) (subs-append xs ys (first .state)) ∙ behind-twice (first .text) _ _
 
   -- one sub-frame more
   pub subs-more :
       (subs : List SubFrame) (i : ℕ) (d : SubFrame) (t : Trunk)
       → i < length subs
-      → before (subsFollowing n table cid s (take i subs) t .text) (subFollowing n table cid s (getD subs i d) (subsFollowing n table cid s (take i subs) t .state))
+      → behind (subsFollowing n table cid s (take i subs) t .text) (subFollowing n table cid s (getD subs i d) (subsFollowing n table cid s (take i subs) t .state))
       ≡ subsFollowing n table cid s (take (i + 1) subs) t
   unfolding subsFollowing
   subs-more subs i d t h =
@@ -126,7 +126,7 @@ module _ (n : ℕ) (table : List ℕ) (cid : ℕ) (s : List ℕ) where
           ap (λ (u : Trunk). subFollowing n table cid s sub u) (going .stands .leaves)
           ∙ ap (λ (x : SubFrame). subFollowing n table cid s x (so .state)) this
           in
-          let told = ap (before (so .text)) step ∙ subs-more (opening s .subs) i sub t more in
+          let told = ap (behind (so .text)) step ∙ subs-more (opening s .subs) i sub t more in
           let both = appending.then (going .stands .text) (one .text) (omega (arith, few)) in
           record {
             within = omega arith;

@@ -1,16 +1,15 @@
 -- What `follow` prints of a recording for one sub-channel (docs/FOLLOW.md), as octets; and the trunk, which goes on from sub-frame to
 -- sub-frame and from line to line.
-use Prim.Native.Nat.{ℕ, zero, suc, _+_}
+use Prim.Native.Nat.{ℕ}
 use mathlib.Core.List.{List, [], _∷_, _++_}
 use mathlib.Core.Bool.{Bool, cond}
-use lib.Dec.{ltb, eqb}
-use lib.ListN.{length, getD, take, drop}
+use lib.Dec.{eqb}
+use lib.ListN.{getD, take, drop}
 use Rattle.refusal.specs.Numbers.{sound}
 use Rattle.octets.specs.Text.{ascii}
 use Rattle.frame.specs.declared.header.SubFrame.{SubFrame}
 use Rattle.frame.specs.Opening.{Opening, opening}
 use Rattle.record.specs.Record.{foundAt}
-use Rattle.provisioning.specs.Text.{Reading, refused, taken, reading, tableOf}
 use Rattle.digits.specs.declared.layout.Window.{Window}
 use Rattle.digits.specs.Layout.{offWindow}
 use Rattle.seizing.specs.declared.receiver.Receiver.{Receiver}
@@ -23,14 +22,10 @@ use Rattle.trunk.specs.declared.Told as trunks
 use Rattle.trunk.specs.Trunk as trunk
 use Rattle.recording.specs.Line.{Held, octets, lineRead}
 use Rattle.recording.specs.Line.{refused as refusedLine}
-use Rattle.recording.specs.Pieces.{lineSize, textEnd}
-use Rattle.recording.specs.Walk.{Told, nothing}
+use Rattle.recording.specs.Walk.{Told, nothing, behind}
+use Rattle.recording.specs.Input.{Program, inputPrinted}
 use Rattle.printing.specs.Field.{field, hexField}
 use Rattle.printing.specs.Refused.{refusedListing, textListing}
-
--- a text before what is told next
-abbrev pub before : List ℕ → Told Trunk → Told Trunk
-before text told = record { text = text ++ told .text; state = told .state }
 
 -- ---- A payload
 
@@ -101,7 +96,7 @@ unfoldable pub subsFollowing : ℕ → List ℕ → ℕ → List ℕ → List Su
 subsFollowing n table cid s [] t = nothing t
 subsFollowing n table cid s (sub ∷ subs) t =
     let first = subFollowing n table cid s sub t in
-    before (first .text) (subsFollowing n table cid s subs (first .state))
+    behind (first .text) (subsFollowing n table cid s subs (first .state))
 
 -- "A line or a frame that is refused prints `frame=`, `refused=` and `at=` .. It reaches no trunk."
 abbrev pub refusing : ℕ → ℕ → ℕ → Trunk → Told Trunk
@@ -125,23 +120,16 @@ lineFollowing table cid n line t = readFollowing n table cid (lineRead line) t
 
 -- ---- A whole input
 
--- The lines of s from number n on. Each has an octet, so that `room`, not below the octets, is enough.
-unfoldable pub linesFollowing : ℕ → List ℕ → ℕ → ℕ → List ℕ → Trunk → Told Trunk
-linesFollowing zero table cid n s t = nothing t
-linesFollowing (suc room) table cid n [] t = nothing t
-linesFollowing (suc room) table cid n (x ∷ xs) t =
-    let size = lineSize (x ∷ xs) in
-    let first = lineFollowing table cid n (take size (x ∷ xs)) t in
-    before (first .text) (linesFollowing room table cid (n + 1) (drop size (x ∷ xs)) (first .state))
-
-abbrev pub afterText : ℕ → Reading → List ℕ → List ℕ
-afterText cid (refused number line) rest = textListing number line
-afterText cid (taken es) rest = linesFollowing (length rest) (tableOf es) cid 0 rest trunk.freshTrunk .text
-
--- What is printed for a whole input and a sub-channel.
-unfoldable pub following : ℕ → List ℕ → List ℕ
-following cid input = afterText cid (reading (take (textEnd input) input)) (drop (textEnd input) input)
-
 -- The room that is asked for the text of a line: 20 digits for every number, 64 sub-frames of the sub-channel.
 abbrev pub mostFollowed : ℕ
 mostFollowed = 20032
+
+-- the program, for a sub-channel
+abbrev pub follower : ℕ → Program Trunk
+follower cid =
+    record { refusing = textListing; tell = λ table. lineFollowing table cid; fresh = trunk.freshTrunk; most = mostFollowed }
+
+-- What is printed for a whole input and a sub-channel. The code prints it piece by piece (Stream.antt): `PiecesFollow`
+-- (Claims.antt).
+abbrev pub following : ℕ → List ℕ → List ℕ
+following cid input = inputPrinted (follower cid) input
