@@ -8,3 +8,4 @@ pub mod Taking
 pub mod Walks
 pub mod LineStart
 pub mod TextStart
+pub mod Bounds
