@@ -10,3 +10,4 @@ pub mod Joins
 pub mod LineStart
 pub mod TextStart
 pub mod InputStart
+pub mod Bounds
