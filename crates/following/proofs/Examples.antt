@@ -17,11 +17,13 @@ use Rattle.trunk.specs.Trunk.{taken}
 use Rattle.recording.specs.Hex.{hexValue, anyOther, paired}
 use Rattle.recording.specs.Line.{lineRead}
 use Rattle.recording.specs.Pieces.{textFrom, lineSize}
+use Rattle.recording.specs.Walk.{linesTold}
+use Rattle.recording.specs.Input.{inputPrinted}
 use Rattle.printing.specs.Decimal.{digits}
 use Rattle.printing.specs.Hex.{hexDigit, hexOf}
 use Rattle.printing.specs.Field.{field, hexField}
 use Rattle.printing.specs.Refused.{refusedListing}
-use Rattle.following.specs.Following.{periodLines, countLines, dialledLines, seizedLines, subLines, subFollowing, subsFollowing, openedFollowing, lineFollowing, linesFollowing, following}
+use Rattle.following.specs.Following.{periodLines, countLines, dialledLines, seizedLines, subLines, subFollowing, subsFollowing, openedFollowing, lineFollowing, following}
 
 -- lines, each with its LF
 abbrev lines : List String → List ℕ
@@ -59,5 +61,5 @@ printed =
     ∷ [])
 
 pub follows : following 5 input ≡ printed
-unfolding input printed following linesFollowing lineFollowing openedFollowing refusedListing subsFollowing subFollowing subLines dialledLines seizedLines countLines periodLines field hexField hexOf hexDigit digits taken received lineRead anyOther paired hexValue textFrom lineSize reading walk lineBy valueLine numberBy secondDigit thirdDigit digitOf wordAmong starts hasLf opening scanned scan headerAt told foundAt meaning packed syntaxAt onVoice onFax onData digitsRead
+unfolding input printed inputPrinted linesTold lineFollowing openedFollowing refusedListing subsFollowing subFollowing subLines dialledLines seizedLines countLines periodLines field hexField hexOf hexDigit digits taken received lineRead anyOther paired hexValue textFrom lineSize reading walk lineBy valueLine numberBy secondDigit thirdDigit digitOf wordAmong starts hasLf opening scanned scan headerAt told foundAt meaning packed syntaxAt onVoice onFax onData digitsRead
 follows = refl

@@ -1,1 +1,5 @@
+pub mod Lines
+pub mod Turns
+pub mod StreamTurns
 pub mod Examples
+pub mod Pieces

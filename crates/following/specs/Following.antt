@@ -1,17 +1,17 @@
 -- What `follow` prints of a recording for one sub-channel (docs/FOLLOW.md), as octets; and the trunk, which goes on from sub-frame to
 -- sub-frame and from line to line.
-use Prim.Native.Nat.{ℕ, zero, suc, _+_}
-use mathlib.Core.List.{List, [], _∷_, _++_, map}
+use Prim.Native.Nat.{ℕ}
+use mathlib.Core.List.{List, [], _∷_, _++_}
 use mathlib.Core.Bool.{Bool, cond}
-use lib.Dec.{ltb, eqb}
-use lib.ListN.{length, take, drop}
+use lib.Dec.{eqb}
+use lib.ListN.{getD, take, drop}
 use Rattle.refusal.specs.Numbers.{sound}
 use Rattle.octets.specs.Text.{ascii}
 use Rattle.frame.specs.declared.header.SubFrame.{SubFrame}
 use Rattle.frame.specs.Opening.{Opening, opening}
 use Rattle.record.specs.Record.{foundAt}
-use Rattle.provisioning.specs.Text.{Reading, refused, taken, reading, tableOf}
 use Rattle.digits.specs.declared.layout.Window.{Window}
+use Rattle.digits.specs.Layout.{offWindow}
 use Rattle.seizing.specs.declared.receiver.Receiver.{Receiver}
 use Rattle.trunk.specs.declared.Trunk.{Trunk}
 use Rattle.trunk.specs.declared.Heard.{Heard}
@@ -22,21 +22,10 @@ use Rattle.trunk.specs.declared.Told as trunks
 use Rattle.trunk.specs.Trunk as trunk
 use Rattle.recording.specs.Line.{Held, octets, lineRead}
 use Rattle.recording.specs.Line.{refused as refusedLine}
-use Rattle.recording.specs.Pieces.{lineSize, textEnd}
+use Rattle.recording.specs.Walk.{Told, nothing, behind}
+use Rattle.recording.specs.Input.{Program, inputPrinted}
 use Rattle.printing.specs.Field.{field, hexField}
 use Rattle.printing.specs.Refused.{refusedListing, textListing}
-
--- What is told: a text, and the trunk behind it.
-pub record Told : Type 0 where
-  pub text : List ℕ
-  pub state : Trunk
-
-abbrev pub nothing : Trunk → Told
-nothing t = record { text = []; state = t }
-
--- a text before what is told next
-abbrev pub before : List ℕ → Told → Told
-before text told = record { text = text ++ told .text; state = told .state }
 
 -- ---- A payload
 
@@ -47,7 +36,10 @@ bit b = cond b 1 0
 abbrev pub windowOctets : Window → List ℕ
 windowOctets w = bit (w .on) ∷ w .edge ∷ w .code ∷ []
 
--- the ten samples of each of three periods
+-- the octets of each of three periods, and the ten samples of each of three
+abbrev pub windows : List Window → List (List ℕ)
+windows ws = windowOctets (getD ws 0 offWindow) ∷ windowOctets (getD ws 1 offWindow) ∷ windowOctets (getD ws 2 offWindow) ∷ []
+
 abbrev pub tens : List ℕ → List (List ℕ)
 tens samples = take 10 samples ∷ take 10 (drop 10 samples) ∷ take 10 (drop 20 samples) ∷ []
 
@@ -63,7 +55,7 @@ countLines fills fill carried =
 
 unfoldable pub dialledLines : Dialled → List ℕ
 dialledLines d =
-    countLines (d .fills) (windowOctets (d .fill)) (d .carried) ++ periodLines (take (d .carried) (map windowOctets (d .periods)))
+    countLines (d .fills) (windowOctets (d .fill)) (d .carried) ++ periodLines (take (d .carried) (windows (d .periods)))
 
 -- "`value=` and `alarm=`, the current value and the alarm after it"
 unfoldable pub seizedLines : Seized → Receiver → List ℕ
@@ -89,58 +81,55 @@ subLines n sub told =
     field (ascii "frame=") n ++ field (ascii "type=") (sub .ptype) ++ field (ascii "len=") (sub .len) ++ field (ascii "answer=") (told .number)
     ++ heardLines (told .heard) told
 
-abbrev pub subTold : ℕ → SubFrame → trunks.Told → Told
+abbrev pub subTold : ℕ → SubFrame → trunks.Told → Told Trunk
 subTold n sub told = record { text = subLines n sub told; state = told .trunk }
 
 -- A sub-frame of the frame s, which has the number n; one of another sub-channel prints nothing and reaches no trunk.
-unfoldable pub subFollowing : ℕ → List ℕ → ℕ → List ℕ → SubFrame → Trunk → Told
+unfoldable pub subFollowing : ℕ → List ℕ → ℕ → List ℕ → SubFrame → Trunk → Told Trunk
 subFollowing n table cid s sub t =
     cond (eqb (sub .cid) cid)
     (subTold n sub (trunk.taken t (foundAt table cid) (sub .ptype) (take (sub .len) (drop (sub .start) s))))
     (nothing t)
 
 -- "each sub-frame of the sub-channel .., in its order"
-unfoldable pub subsFollowing : ℕ → List ℕ → ℕ → List ℕ → List SubFrame → Trunk → Told
+unfoldable pub subsFollowing : ℕ → List ℕ → ℕ → List ℕ → List SubFrame → Trunk → Told Trunk
 subsFollowing n table cid s [] t = nothing t
 subsFollowing n table cid s (sub ∷ subs) t =
     let first = subFollowing n table cid s sub t in
-    before (first .text) (subsFollowing n table cid s subs (first .state))
+    behind (first .text) (subsFollowing n table cid s subs (first .state))
 
 -- "A line or a frame that is refused prints `frame=`, `refused=` and `at=` .. It reaches no trunk."
-abbrev pub refusing : ℕ → ℕ → ℕ → Trunk → Told
+abbrev pub refusing : ℕ → ℕ → ℕ → Trunk → Told Trunk
 refusing n number at t = record { text = refusedListing n number at; state = t }
 
-unfoldable pub openedFollowing : ℕ → List ℕ → ℕ → List ℕ → Opening → Trunk → Told
+unfoldable pub openedFollowing : ℕ → List ℕ → ℕ → List ℕ → Opening → Trunk → Told Trunk
 openedFollowing n table cid s o t =
     cond (eqb (o .number) sound) (subsFollowing n table cid s (o .subs) t) (refusing n (o .number) (o .at) t)
 
 -- the frame s, which has the number n
-abbrev pub frameFollowing : ℕ → List ℕ → ℕ → List ℕ → Trunk → Told
+abbrev pub frameFollowing : ℕ → List ℕ → ℕ → List ℕ → Trunk → Told Trunk
 frameFollowing n table cid s t = openedFollowing n table cid s (opening s) t
 
-abbrev pub readFollowing : ℕ → List ℕ → ℕ → Held → Trunk → Told
+abbrev pub readFollowing : ℕ → List ℕ → ℕ → Held → Trunk → Told Trunk
 readFollowing n table cid (octets s) t = frameFollowing n table cid s t
 readFollowing n table cid (refusedLine number) t = refusing n number 0 t
 
 -- A line that has the number n.
-unfoldable pub lineFollowing : List ℕ → ℕ → ℕ → List ℕ → Trunk → Told
+unfoldable pub lineFollowing : List ℕ → ℕ → ℕ → List ℕ → Trunk → Told Trunk
 lineFollowing table cid n line t = readFollowing n table cid (lineRead line) t
 
 -- ---- A whole input
 
--- The lines of s from number n on. Each has an octet, so that `room`, not below the octets, is enough.
-unfoldable pub linesFollowing : ℕ → List ℕ → ℕ → ℕ → List ℕ → Trunk → Told
-linesFollowing zero table cid n s t = nothing t
-linesFollowing (suc room) table cid n [] t = nothing t
-linesFollowing (suc room) table cid n (x ∷ xs) t =
-    let size = lineSize (x ∷ xs) in
-    let first = lineFollowing table cid n (take size (x ∷ xs)) t in
-    before (first .text) (linesFollowing room table cid (n + 1) (drop size (x ∷ xs)) (first .state))
+-- The room that is asked for the text of a line: 20 digits for every number, 64 sub-frames of the sub-channel.
+abbrev pub mostFollowed : ℕ
+mostFollowed = 20032
 
-abbrev pub afterText : ℕ → Reading → List ℕ → List ℕ
-afterText cid (refused number line) rest = textListing number line
-afterText cid (taken es) rest = linesFollowing (length rest) (tableOf es) cid 0 rest trunk.freshTrunk .text
+-- the program, for a sub-channel
+abbrev pub follower : ℕ → Program Trunk
+follower cid =
+    record { refusing = textListing; tell = λ table. lineFollowing table cid; fresh = trunk.freshTrunk; most = mostFollowed }
 
--- What is printed for a whole input and a sub-channel.
-unfoldable pub following : ℕ → List ℕ → List ℕ
-following cid input = afterText cid (reading (take (textEnd input) input)) (drop (textEnd input) input)
+-- What is printed for a whole input and a sub-channel. The code prints it piece by piece (Stream.antt): `PiecesFollow`
+-- (Claims.antt).
+abbrev pub following : ℕ → List ℕ → List ℕ
+following cid input = inputPrinted (follower cid) input

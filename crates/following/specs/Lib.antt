@@ -1,1 +1,4 @@
 pub mod Following
+pub mod Stream
+pub mod Private
+pub mod Claims

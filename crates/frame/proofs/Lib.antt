@@ -4,3 +4,4 @@ pub mod HeaderInverse
 pub mod OpeningTurns
 pub mod OpeningList
 pub mod HeaderWritten
+pub mod Chain

@@ -1,6 +1,5 @@
 // The listing program (document 01, "Listing program"): a recording from standard input, its listing to standard output. It reads,
-// has the crate `listing` list, and prints, in fixed memory.
-use octets::Put;
+// has the crate `listing` list, and prints, in fixed memory. Where a write fails it says so and stops.
 use provisioning::text::TextAnswer;
 use recording::stream::Begun;
 use recording::stream::MOST_KEPT;
@@ -8,12 +7,35 @@ ghost use Prim.Native.Nat.{_≤_};
 ghost use lib.ListN.{length};
 ghost use Rattle.listing.specs.Listing.{mostListed};
 
-// Prints what is listed.
-fn print(out: &[u8], used: usize)
+// How the next line stands, and whether printing went well so far.
+struct Stands {
+    begun: Begun,
+    well: bool,
+}
+
+// Prints what is listed, and answers whether that went well.
+fn print(out: &[u8], used: usize) -> bool
     requires { ⌜ used ≤ length (now out) ⌝ }
 {
-    if !io::write_all(libc::STDOUT_FILENO, &out[..used]) {
-        io::write_all(libc::STDERR_FILENO, b"list: a write failed\n");
+    if io::write_all(libc::STDOUT_FILENO, &out[..used]) {
+        return true;
+    }
+    io::write_all(libc::STDERR_FILENO, b"list: a write failed\n");
+    false
+}
+
+// Says of a refused text that it has a CR.
+fn say_cr(text: &[u8]) {
+    let mut i: usize = 0;
+    while i < text.len() {
+        if text[i] == 13 {
+            io::write_all(
+                libc::STDERR_FILENO,
+                b"list: the text has CR, and a line ends with LF alone\n",
+            );
+            return;
+        }
+        i += 1;
     }
 }
 
@@ -24,21 +46,29 @@ fn list_all(
     kept: &mut [u8; MOST_KEPT],
     table: &[u16; 256],
     out: &mut [u8],
-) -> Begun
+) -> Stands
     requires { ⌜ mostListed ≤ length (now out) ⌝ }
 {
     let mut stands = begun;
     let mut at: usize = 0;
     while at < piece.len() {
         let listed = listing::stream::list_piece(&piece[at..], stands, kept, table, out);
-        print(out, listed.used);
         stands = Begun {
             have: listed.have,
             number: listed.number,
         };
+        if !print(out, listed.used) {
+            return Stands {
+                begun: stands,
+                well: false,
+            };
+        }
         at += listed.taken;
     }
-    stands
+    Stands {
+        begun: stands,
+        well: true,
+    }
 }
 
 // Lists piece after piece, to the end of the input.
@@ -48,7 +78,7 @@ fn list_more(
     kept: &mut [u8; MOST_KEPT],
     table: &[u16; 256],
     out: &mut [u8],
-) -> Begun
+) -> Stands
     requires { ⌜ mostListed ≤ length (now out) ⌝ }
 {
     let mut stands = begun;
@@ -58,11 +88,22 @@ fn list_more(
         turns -= 1;
         let n = io::count(libc::read(libc::STDIN_FILENO, input), input);
         if n == 0 {
-            return stands;
+            return Stands {
+                begun: stands,
+                well: true,
+            };
         }
-        stands = list_all(&input[..n], stands, kept, table, out);
+        let listed = list_all(&input[..n], stands, kept, table, out);
+        if !listed.well {
+            return listed;
+        }
+        let next = listed.begun;
+        stands = next;
     }
-    stands
+    Stands {
+        begun: stands,
+        well: true,
+    }
 }
 
 // Lists a last line that lacks its LF.
@@ -86,8 +127,20 @@ fn list_rest(
 {
     let none = Begun { have: 0, number: 0 };
     let first = list_all(&input[from..to], none, kept, table, out);
-    let last = list_more(input, first, kept, table, out);
-    finish(last, kept, table, out);
+    if first.well {
+        let begun = first.begun;
+        let last = list_more(input, begun, kept, table, out);
+        if last.well {
+            let end = last.begun;
+            finish(end, kept, table, out);
+        }
+    }
+}
+
+// Prints the lines of a refused text.
+fn refuse(out: &mut [u8], number: u8, line: usize) {
+    let used = printing::refused::put_refused_text(out, 0, number, line);
+    print(out, used);
 }
 
 fn main() {
@@ -102,12 +155,8 @@ fn main() {
             list_rest(&mut input, end, n, &mut kept, &table, &mut out);
         }
         TextAnswer::Refused { number, line } => {
-            match listing::listing::list_text(&mut out, 0, number, line) {
-                Put::Written(next) => {
-                    print(&out, next);
-                }
-                Put::NotWritten(_) => {}
-            }
+            refuse(&mut out, number, line);
+            say_cr(&input[..end]);
         }
     }
 }

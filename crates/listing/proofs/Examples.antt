@@ -16,6 +16,7 @@ use Rattle.recording.specs.Hex.{hexValue, anyOther, paired}
 use Rattle.recording.specs.Line.{lineRead}
 use Rattle.recording.specs.Pieces.{textFrom, lineSize}
 use Rattle.recording.specs.Walk.{linesTold}
+use Rattle.recording.specs.Input.{inputPrinted}
 use Rattle.printing.specs.Decimal.{digits}
 use Rattle.printing.specs.Field.{field}
 use Rattle.printing.specs.Refused.{refusedListing}
@@ -35,5 +36,5 @@ printed =
     ("frame=0" ∷ "subs=2" ∷ "cid=5" ∷ "type=1" ∷ "len=8" ∷ "answer=0" ∷ "cid=6" ∷ "type=0" ∷ "len=1" ∷ "answer=11" ∷ [])
 
 pub lists : listing input ≡ printed
-unfolding input printed listing linesTold lineListing openedListing refusedListing subsListing subListing fourFields field digits lineRead anyOther paired hexValue textFrom lineSize reading walk lineBy valueLine numberBy secondDigit thirdDigit digitOf wordAmong starts hasLf opening scanned scan headerAt told foundAt meaning packed syntaxAt onVoice onFax onData digitsRead
+unfolding input printed inputPrinted linesTold lineListing openedListing refusedListing subsListing subListing fourFields field digits lineRead anyOther paired hexValue textFrom lineSize reading walk lineBy valueLine numberBy secondDigit thirdDigit digitOf wordAmong starts hasLf opening scanned scan headerAt told foundAt meaning packed syntaxAt onVoice onFax onData digitsRead
 lists = refl

@@ -1,7 +1,5 @@
-pub mod Chain
 pub mod Listings
 pub mod SubsTurns
 pub mod StreamTurns
-pub mod InputStart
 pub mod Pieces
 pub mod Examples

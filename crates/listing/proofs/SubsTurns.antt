@@ -1,20 +1,17 @@
 -- The loop of `put_subs`: after i turns the first i sub-frames stand, and the next header is at the place.
-use Prim.Native.Nat.{ℕ, suc, _+_, _*_, _<_, _≤_}
-use mathlib.Core.Path.{_≡_, sym, ap, subst, _∙_}
+use Prim.Native.Nat.{ℕ, _+_, _*_, _<_, _≤_}
+use mathlib.Core.Path.{_≡_, sym, ap, _∙_}
 use mathlib.Core.List.{List, _++_}
 use native.Mathlib.Omega.{arith}
-use native.Mathlib.Numerals.{add-one}
-use lib.ListN.{length, getD, take, drop}
-use lib.Seq.{take-all, drop-cons}
+use lib.ListN.{length, take, drop}
+use lib.Seq.{take-all}
 use Rattle.frame.specs.declared.header.SubFrame.{SubFrame}
-use Rattle.frame.specs.declared.header.Header.the-variants.{Sub}
-use Rattle.frame.specs.Header.{headerAt, subAt}
+use Rattle.frame.specs.Header.{subAt}
 use Rattle.frame.specs.Opening.{endOf, opening}
-use Rattle.frame.proofs.HeaderInverse as inverse
+use Rattle.frame.proofs.Chain as chain
 use Rattle.listing.specs.Listing.{subListing, subsListing}
 use Rattle.printing.specs.Room.{Appended}
 use Rattle.printing.proofs.Appending as appending
-use Rattle.listing.proofs.Chain as chain
 use Rattle.listing.proofs.Listings as listings
 use Rattle.recording.proofs.Keeping as keeping
 
@@ -41,16 +38,8 @@ module _ {table s out₀ out : List ℕ} {at next place i : ℕ} (going : Going 
 
   -- the sub-frame whose header is at the place
   module _ (sub : SubFrame) (is : sub ≡ subAt s place) (more : i < length (opening s .subs)) where
-    links :
-        (headerAt s place ≡ Sub (getD (opening s .subs) i sub))
-        × ((endOf (getD (opening s .subs) i sub) ≤ length s) × chain.Chain s (endOf (getD (opening s .subs) i sub)) (drop (suc i) (opening s .subs)))
-    links = rw (drop-cons (opening s .subs) i sub more) at (going .rest)
-
-    this : sub ≡ getD (opening s .subs) i sub
-    this = is ∙ inverse.sub-at-tells s place (getD (opening s .subs) i sub) (links .0)
-
     pub ends : endOf sub ≤ length s
-    ends = omega (arith, ap endOf this, links .1 .0)
+    ends = chain.ends s place i (opening s .subs) (going .rest) sub is more
 
     pub room-left : next + 104 ≤ length out
     room-left = omega (arith, few s, going .stands .ends, going .stands .size, same-length)
@@ -61,13 +50,13 @@ module _ {table s out₀ out : List ℕ} {at next place i : ℕ} (going : Going 
         → Going table s out₀ after at then (endOf sub) (i + 1)
     turn {after} {then} one =
         let text =
-        ap (λ (x : SubFrame). subsListing table s (take i (opening s .subs)) ++ subListing table s x) this
+        ap (λ (x : SubFrame). subsListing table s (take i (opening s .subs)) ++ subListing table s x) (chain.this s place i (opening s .subs) (going .rest) sub is more)
         ∙ listings.subs-more table s (opening s .subs) i sub more
         in
         let both = appending.then (going .stands) one (omega (arith, few s)) in
         record {
           within = omega arith;
-          rest = rw (add-one i) (subst (λ (x : SubFrame). chain.Chain s (endOf x) (drop (suc i) (opening s .subs))) (sym this) (links .1 .1));
+          rest = chain.onward s place i (opening s .subs) (going .rest) sub is more;
           stands = appending.reads (appending.within both (104 * (i + 1)) (omega arith)) text;
         }
 

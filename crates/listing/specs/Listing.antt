@@ -11,12 +11,11 @@ use Rattle.octets.specs.Text.{ascii}
 use Rattle.frame.specs.declared.header.SubFrame.{SubFrame}
 use Rattle.frame.specs.Opening.{Opening, opening}
 use Rattle.record.specs.Record.{foundAt}
-use Rattle.provisioning.specs.Text.{Reading, refused, taken, reading, tableOf}
 use Rattle.payload.specs.Content.{payloadRead, numberOf}
 use Rattle.recording.specs.Line.{Held, octets, lineRead}
 use Rattle.recording.specs.Line.{refused as refusedLine}
-use Rattle.recording.specs.Pieces.{textEnd}
-use Rattle.recording.specs.Walk.{Tell, allTold}
+use Rattle.recording.specs.Walk.{Tell}
+use Rattle.recording.specs.Input.{Program, inputPrinted}
 use Rattle.printing.specs.Field.{field}
 use Rattle.printing.specs.Refused.{refusedListing, textListing}
 
@@ -59,17 +58,17 @@ lineListing n table line = readListing n table (lineRead line)
 abbrev pub tellLine : List ℕ → Tell (Unit {0})
 tellLine table n line state = record { text = lineListing n table line; state = state }
 
-abbrev pub afterText : Reading → List ℕ → List ℕ
-afterText (refused number line) rest = textListing number line
-afterText (taken es) rest = allTold (tellLine (tableOf es)) tt rest .text
-
--- What is printed for a whole input. The code prints it piece by piece (Stream.antt): `PiecesList` (Claims.antt).
-unfoldable pub listing : List ℕ → List ℕ
-listing input = afterText (reading (take (textEnd input) input)) (drop (textEnd input) input)
-
 -- The room that is asked for a line's listing: 20 digits for every number, 64 sub-frames.
 abbrev pub mostListed : ℕ
 mostListed = 6709
+
+-- the program
+abbrev pub lister : Program (Unit {0})
+lister = record { refusing = textListing; tell = tellLine; fresh = tt; most = mostListed }
+
+-- What is printed for a whole input. The code prints it piece by piece (Stream.antt): `PiecesList` (Claims.antt).
+abbrev pub listing : List ℕ → List ℕ
+listing input = inputPrinted lister input
 
 -- What putting a listing into lent room from a place on answers: 21 where that room is not there, whatever the line.
 unfoldable pub listed : List ℕ → ℕ → List ℕ → Put

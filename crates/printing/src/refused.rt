@@ -9,6 +9,7 @@ ghost use Rattle.printing.specs.Room.{fitting, Appended};
 
 // The room that is asked for each: names, and 20 digits and LF behind each.
 const MOST_REFUSED: usize = 80;
+
 const MOST_TEXT: usize = 52;
 
 fn append_refused(out: &mut [u8], at: usize, n: u64, number: u8, place: usize) -> usize

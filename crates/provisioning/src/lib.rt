@@ -1,4 +1,4 @@
 // The provisioning text (document 01, "Provisioning text").
 mod line;
 pub mod text;
-mod value;
+pub mod value;

@@ -61,7 +61,7 @@ fn number_by(first: u8, second: u8, third: u8, fourth: u8) -> Value
 }
 
 // The number that a text starts with.
-pub(crate) fn number_of(s: &[u8]) -> Value
+pub fn number_of(s: &[u8]) -> Value
     ensures { λ r. ⌜ r ≡ numberOf (now (s .entry)) ⌝ }
 {
     number_by(

@@ -17,7 +17,7 @@ use Rattle.octets.proofs.Writes as writes
 use Rattle.recording.specs.declared.stream.Begun.{Begun}
 use Rattle.recording.specs.Pieces.{lineSize, lineEnds, toKeep}
 use Rattle.recording.specs.Stream.{nextNumber, haveOf, keptOf, lineOf, nextOf, keptBehind}
-use Rattle.recording.specs.Walk.{Told, Tell, Walk, nothing, behind, linesTold, allTold, stopped, before, nextTold, walk, pieceTold, lastTold, partsTold, piecesTold, inputTold, whole}
+use Rattle.recording.specs.Walk.{Told, Tell, Walk, nothing, behind, linesTold, stopped, before, nextTold, walk, pieceTold, lastTold, partsTold, piecesTold, whole}
 use Rattle.recording.specs.Claims.{mostKept, ByStart, PiecesTell, FewLines, SomeTaken}
 use Rattle.recording.proofs.Blocks as blocks
 use Rattle.recording.proofs.Ends as ends

@@ -9,3 +9,5 @@ pub mod Walks
 pub mod Joins
 pub mod LineStart
 pub mod TextStart
+pub mod InputStart
+pub mod Bounds

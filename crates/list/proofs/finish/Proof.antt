@@ -1,6 +1,8 @@
 -- `list::finish` is safe: what is listed lies within the room.
-use Rattle.list.proofs.Bounds as bounds
+use native.Mathlib.Omega.{arith}
 use lib.ListN.{length}
+use Rattle.recording.proofs.Bounds as bounds
+use Rattle.listing.specs.Stream.{lastListed}
 use borrow.Author.Needs.{needs}
 use Rattle.list.proofs.finish.Statement.{statement}
 use Rattle.list.proofs.finish.Tie as tie
@@ -10,9 +12,8 @@ list-last-requires c κs = search needs
 
 print-requires : tie.Need-print-requires
 print-requires c κs =
-    let a = c .before .before .before .before .before .before .args in
     let last = c .before .before .before .list-last in
-    bounds.last-within (length (a .out .now)) (a .table .now) (a .begun) (a .kept .now) (a .out .now) _ _ (last .ensures .0) (last .ensures .1) (search needs)
+    omega (arith, last .ensures .0, bounds.fits (c .before .before .before .before .before .before .args .out .now) _ (lastListed (length (c .before .before .before .before .before .before .args .out .now)) (c .before .before .before .before .before .before .args .table .now) (c .before .before .before .before .before .before .args .begun) (c .before .before .before .before .before .before .args .kept .now)) (last .ensures .1) (search needs))
 
 same-length : tie.Need-same-length
 same-length c = search needs

@@ -1,9 +1,10 @@
 -- `list::list_all` is safe and ends: each turn takes an octet or more of the piece.
-use Rattle.list.proofs.Bounds as bounds
-use lib.ListN.{length}
-use native.Mathlib.Omega.{arith}
 use Prim.Native.Nat.{_-_, _≤_}
 use mathlib.Core.Path.{_≡_}
+use native.Mathlib.Omega.{arith}
+use lib.ListN.{length}
+use Rattle.recording.proofs.Bounds as bounds
+use Rattle.list.proofs.Bounds as within
 use borrow.Author.Needs.{needs}
 use Rattle.list.proofs.list_all.Statement.{statement}
 use Rattle.list.proofs.list_all.Tie as tie
@@ -31,44 +32,49 @@ list-piece-requires c κs = search needs
 
 print-requires : tie.Need-print-requires Inv-loop μ-loop
 print-requires c κs =
-    let a = c .before .before .before .before .before .before .before .before .before .before .before .args in
     let l = c .before .before .before .before .before .before .before .before .loop in
     let piece = c .before .before .before .list-piece in
-    bounds.prints-within (length (l .out)) (a .table .now) (l .stands) (l .kept) (bounds.rest (a .piece .now) (l .at)) (piece .result) (piece .ensures .0) (l .out) _ (piece .ensures .1 .1) (search needs)
-
-add-at : tie.Need-add-at Inv-loop μ-loop
-add-at c =
-    let a = c .before .before .before .before .before .before .before .before .before .before .before .before .before .args in
-    let l = c .before .before .before .before .before .before .before .before .before .before .loop in
-    let piece = c .before .before .before .before .before .list-piece in
-    let size = bounds.rest-size (a .piece .now) (l .at) in
-    let takes = bounds.takes-within (length (l .out)) (a .table .now) (l .stands) (l .kept) (bounds.rest (a .piece .now) (l .at)) (piece .result) (piece .ensures .0) in
-    omega (arith, c .before .before .before .before .before .before .before .before .before .before .before .before .before .good .0 .0)
-
-loop-less : tie.Need-loop-less Inv-loop μ-loop
-loop-less c =
-    let a = c .before .before .before .before .before .before .before .before .before .before .before .before .before .args in
-    let l = c .before .before .before .before .before .before .before .before .before .before .loop in
-    let piece = c .before .before .before .before .before .list-piece in
-    let size = bounds.rest-size (a .piece .now) (l .at) in
-    let takes = bounds.takes-within (length (l .out)) (a .table .now) (l .stands) (l .kept) (bounds.rest (a .piece .now) (l .at)) (piece .result) (piece .ensures .0) in
-    let some = bounds.takes-some (length (l .out)) (a .table .now) (l .stands) (l .kept) (bounds.rest (a .piece .now) (l .at)) (piece .result) (piece .ensures .0) (omega (arith, c .before .before .before .before .before .before .before .before .before .before .before .before .before .pre, l .inv .1)) (omega (arith, size, c .before .before .before .before .before .before .before .before .before .loop-test .taken)) in
-    omega arith
-
-loop-again : tie.Need-loop-again Inv-loop μ-loop
-loop-again c =
-    let a = c .before .before .before .before .before .before .before .before .before .before .before .before .before .args in
-    let l = c .before .before .before .before .before .before .before .before .before .before .loop in
-    let piece = c .before .before .before .before .before .list-piece in
-    let size = bounds.rest-size (a .piece .now) (l .at) in
-    let takes = bounds.takes-within (length (l .out)) (a .table .now) (l .stands) (l .kept) (bounds.rest (a .piece .now) (l .at)) (piece .result) (piece .ensures .0) in
-    (omega arith, omega (arith, l .inv .1))
+    within.prints-within (length (l .out)) (c .before .before .before .before .before .before .before .before .before .before .before .args .table .now) (l .stands) (l .kept) (bounds.rest (c .before .before .before .before .before .before .before .before .before .before .before .args .piece .now) (l .at)) (piece .result) (piece .ensures .0) (l .out) _ (piece .ensures .1 .1) (search needs)
 
 same-length : tie.Need-same-length Inv-loop μ-loop
 same-length c = search needs
 
 returns : tie.Need-returns Inv-loop μ-loop
 returns c = search needs
+
+add-at : tie.Need-add-at Inv-loop μ-loop
+add-at c =
+    let a = c .before .before .before .before .before .before .before .before .before .before .before .before .before .before .args in
+    let l = c .before .before .before .before .before .before .before .before .before .before .before .loop in
+    let piece = c .before .before .before .before .before .before .list-piece in
+    let size = bounds.rest-size (a .piece .now) (l .at) in
+    let takes = within.takes-within (length (l .out)) (a .table .now) (l .stands) (l .kept) (bounds.rest (a .piece .now) (l .at)) (piece .result) (piece .ensures .0) in
+    omega (arith, c .before .before .before .before .before .before .before .before .before .before .before .before .before .before .good .0 .0)
+
+loop-less : tie.Need-loop-less Inv-loop μ-loop
+loop-less c =
+    let a = c .before .before .before .before .before .before .before .before .before .before .before .before .before .before .args in
+    let l = c .before .before .before .before .before .before .before .before .before .before .before .loop in
+    let piece = c .before .before .before .before .before .before .list-piece in
+    let size = bounds.rest-size (a .piece .now) (l .at) in
+    let takes = within.takes-within (length (l .out)) (a .table .now) (l .stands) (l .kept) (bounds.rest (a .piece .now) (l .at)) (piece .result) (piece .ensures .0) in
+    let some = within.takes-some (length (l .out)) (a .table .now) (l .stands) (l .kept) (bounds.rest (a .piece .now) (l .at)) (piece .result) (piece .ensures .0) (omega (arith, c .before .before .before .before .before .before .before .before .before .before .before .before .before .before .pre, l .inv .1)) (omega (arith, size, c .before .before .before .before .before .before .before .before .before .before .loop-test .taken)) in
+    omega arith
+
+loop-again : tie.Need-loop-again Inv-loop μ-loop
+loop-again c =
+    let a = c .before .before .before .before .before .before .before .before .before .before .before .before .before .before .args in
+    let l = c .before .before .before .before .before .before .before .before .before .before .before .loop in
+    let piece = c .before .before .before .before .before .before .list-piece in
+    let size = bounds.rest-size (a .piece .now) (l .at) in
+    let takes = within.takes-within (length (l .out)) (a .table .now) (l .stands) (l .kept) (bounds.rest (a .piece .now) (l .at)) (piece .result) (piece .ensures .0) in
+    (omega arith, omega (arith, l .inv .1))
+
+same-length-2 : tie.Need-same-length-2 Inv-loop μ-loop
+same-length-2 c = search needs
+
+returns-2 : tie.Need-returns-2 Inv-loop μ-loop
+returns-2 c = search needs
 
 pub list-all-spec : {M : Type 1} → statement M
 list-all-spec =
@@ -82,8 +88,10 @@ list-all-spec =
     part-list-piece-end
     list-piece-requires
     print-requires
+    same-length
+    returns
     add-at
     loop-less
     loop-again
-    same-length
-    returns)
+    same-length-2
+    returns-2)

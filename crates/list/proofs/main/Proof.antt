@@ -1,8 +1,8 @@
 -- `list::main` is safe: the text ends within what was read.
 use mathlib.Core.Path.{sym}
-use lib.Seq.{length-take-le}
 use native.Mathlib.Omega.{arith}
-use Rattle.list.proofs.Bounds as bounds
+use lib.Seq.{length-take-le}
+use Rattle.recording.proofs.Bounds as bounds
 use borrow.Author.Needs.{needs}
 use Rattle.list.proofs.main.Statement.{statement}
 use Rattle.list.proofs.main.Tie as tie
@@ -29,12 +29,10 @@ text-end-requires : tie.Need-text-end-requires
 text-end-requires c κs = search needs
 
 array-share-prefix-input-2 : tie.Need-array-share-prefix-input-2
-array-share-prefix-input-2 c =
-    omega (arith, bounds.text-ends _ _ _ (c .before .before .before .read-full .ensures .0) (c .text-end .ensures), c .before .before .before .read-full .ensures .0)
+array-share-prefix-input-2 c = omega (arith, bounds.text-ends _ _ _ (c .before .before .before .read-full .ensures .0) (c .text-end .ensures), c .before .before .before .read-full .ensures .0)
 
 slice-aggregate-read-text : tie.Need-slice-aggregate-read-text
-slice-aggregate-read-text c =
-    sym (length-take-le _ _ (omega (arith, bounds.text-ends _ _ _ (c .before .before .before .before .read-full .ensures .0) (c .before .text-end .ensures), c .before .before .before .before .read-full .ensures .0)))
+slice-aggregate-read-text c = sym (length-take-le _ _ (omega (arith, bounds.text-ends _ _ _ (c .before .before .before .before .read-full .ensures .0) (c .before .text-end .ensures), c .before .before .before .before .read-full .ensures .0)))
 
 read-text-requires : tie.Need-read-text-requires
 read-text-requires c κs = search needs
@@ -49,39 +47,31 @@ slice-aggregate-list-rest-2 : tie.Need-slice-aggregate-list-rest-2
 slice-aggregate-list-rest-2 c = search needs
 
 list-rest-requires : tie.Need-list-rest-requires
-list-rest-requires c κs =
-    (bounds.text-ends _ _ _ (c .before .before .before .before .before .before .before .before .before .before .before .before .read-full .ensures .0) (c .before .before .before .before .before .before .before .before .before .text-end .ensures), (c .before .before .before .before .before .before .before .before .before .before .before .before .read-full .ensures .0, search needs))
+list-rest-requires c κs = (bounds.text-ends _ _ _ (c .before .before .before .before .before .before .before .before .before .before .before .before .read-full .ensures .0) (c .before .before .before .before .before .before .before .before .before .text-end .ensures), (c .before .before .before .before .before .before .before .before .before .before .before .before .read-full .ensures .0, search needs))
 
 enum-known-number : tie.Need-enum-known-number
 enum-known-number c = search needs
 
-slice-aggregate-list-text : tie.Need-slice-aggregate-list-text
-slice-aggregate-list-text c = search needs
+slice-aggregate-refuse : tie.Need-slice-aggregate-refuse
+slice-aggregate-refuse c = search needs
 
-list-text-requires : tie.Need-list-text-requires
-list-text-requires c κs = search needs
+refuse-requires : tie.Need-refuse-requires
+refuse-requires c κs = search needs
 
-enum-known-next : tie.Need-enum-known-next
-enum-known-next c = search needs
+array-share-prefix-input-3 : tie.Need-array-share-prefix-input-3
+array-share-prefix-input-3 c = omega (arith, bounds.text-ends _ _ _ (c .before .before .before .before .before .before .before .before .before .before .before .before .read-full .ensures .0) (c .before .before .before .before .before .before .before .before .before .text-end .ensures), c .before .before .before .before .before .before .before .before .before .before .before .before .read-full .ensures .0)
 
-slice-aggregate-print : tie.Need-slice-aggregate-print
-slice-aggregate-print c = search needs
+slice-aggregate-say-cr : tie.Need-slice-aggregate-say-cr
+slice-aggregate-say-cr c = sym (length-take-le _ _ (omega (arith, bounds.text-ends _ _ _ (c .before .before .before .before .before .before .before .before .before .before .before .before .before .read-full .ensures .0) (c .before .before .before .before .before .before .before .before .before .before .text-end .ensures), c .before .before .before .before .before .before .before .before .before .before .before .before .before .read-full .ensures .0)))
 
-print-requires : tie.Need-print-requires
-print-requires c κs =
-    let text = c .before .before .before .before .before .list-text in bounds.ends-within _ _ _ 0 _ _ (text .ensures .0) (text .ensures .1) (c .before .before .next .given .1) (search needs) (omega arith)
-
-enum-told-2 : tie.Need-enum-told-2
-enum-told-2 c = search needs
+say-cr-requires : tie.Need-say-cr-requires
+say-cr-requires c κs = search needs
 
 returns : tie.Need-returns
 returns c = search needs
 
 returns-2 : tie.Need-returns-2
 returns-2 c = search needs
-
-returns-3 : tie.Need-returns-3
-returns-3 c = search needs
 
 pub main-spec : {M : Type 1} → statement M
 main-spec =
@@ -102,12 +92,10 @@ main-spec =
     slice-aggregate-list-rest-2
     list-rest-requires
     enum-known-number
-    slice-aggregate-list-text
-    list-text-requires
-    enum-known-next
-    slice-aggregate-print
-    print-requires
-    enum-told-2
+    slice-aggregate-refuse
+    refuse-requires
+    array-share-prefix-input-3
+    slice-aggregate-say-cr
+    say-cr-requires
     returns
-    returns-2
-    returns-3)
+    returns-2)

@@ -1,4 +1,4 @@
--- `list::print` is safe: what is listed lies within the room.
+-- `list::print` is safe: what is printed is a part of the room.
 use mathlib.Core.Path.{sym}
 use lib.Seq.{length-take-le}
 use borrow.Author.Needs.{needs}
@@ -6,20 +6,19 @@ use Rattle.list.proofs.print.Statement.{statement}
 use Rattle.list.proofs.print.Tie as tie
 
 slice-aggregate-write-all : tie.Need-slice-aggregate-write-all
-slice-aggregate-write-all c =
-    let a = c .before .before .args in sym (length-take-le (a .used) (a .out .now) (c .before .before .pre))
+slice-aggregate-write-all c = sym (length-take-le _ _ (c .before .before .pre))
 
 write-all-requires : tie.Need-write-all-requires
 write-all-requires c κs = search needs
+
+returns : tie.Need-returns
+returns c = search needs
 
 slice-aggregate-write-all-2 : tie.Need-slice-aggregate-write-all-2
 slice-aggregate-write-all-2 c = search needs
 
 write-all-requires-2 : tie.Need-write-all-requires-2
 write-all-requires-2 c κs = search needs
-
-returns : tie.Need-returns
-returns c = search needs
 
 returns-2 : tie.Need-returns-2
 returns-2 c = search needs
@@ -30,7 +29,7 @@ print-spec =
     (tie.spec
     slice-aggregate-write-all
     write-all-requires
+    returns
     slice-aggregate-write-all-2
     write-all-requires-2
-    returns
     returns-2)

@@ -1,19 +1,21 @@
 -- The sub-frames of a frame that opens: each header stands where the sub-frame before it ends. They lie within the frame, and are
 -- at most 64.
-use Prim.Native.Nat.{ℕ, zero, suc, _≤_}
-use mathlib.Core.Path.{_≡_, refl}
+use Prim.Native.Nat.{ℕ, zero, suc, _+_, _<_, _≤_}
+use mathlib.Core.Path.{_≡_, refl, sym, ap, subst, _∙_}
 use mathlib.Core.List.{List, [], _∷_}
 use mathlib.Core.Bool.{Bool, true, false, cond}
 use native.Mathlib.Omega.{arith}
+use native.Mathlib.Numerals.{add-one}
 use lib.Dec.{ltb, eqb}
-use lib.ListN.{length}
+use lib.ListN.{length, getD, drop}
+use lib.Seq.{drop-cons}
 use Rattle.refusal.specs.Numbers.{sound, fieldEmpty, fieldTooLong}
 use Rattle.frame.specs.declared.header.SubFrame.{SubFrame}
 use Rattle.frame.specs.declared.header.Header.{Header}
 use Rattle.frame.specs.declared.header.Header.the-variants.{Sub, Bad, Past}
-use Rattle.frame.specs.Header.{headerAt}
+use Rattle.frame.specs.Header.{headerAt, subAt}
 use Rattle.frame.specs.Opening.{Opening, stopped, endOf, endOfHeader, onwards, scan, scanned, opening}
 use Rattle.frame.proofs.HeaderInverse as inverse
 
 module _ (s : List ℕ) where
   abbrev pub Chain : ℕ → List SubFrame → Type 0
@@ -74,3 +76,19 @@ module _ (s : List ℕ) where
       go : (t : Bool) → Fine 64 0 (cond t (scanned s) (stopped (scanned s .number) (scanned s .at)))
       go true = scanned-fine
       go false = none 64 0 _ _ (scanned-fine .place)
+
+-- the sub-frame whose header is next, behind i others
+module _ (s : List ℕ) (place i : ℕ) (subs : List SubFrame) (rest : Chain s place (drop i subs)) (sub : SubFrame) (is : sub ≡ subAt s place)
+    (more : i < length subs) where
+  links :
+      (headerAt s place ≡ Sub (getD subs i sub)) × ((endOf (getD subs i sub) ≤ length s) × Chain s (endOf (getD subs i sub)) (drop (suc i) subs))
+  links = rw (drop-cons subs i sub more) at rest
+
+  pub this : sub ≡ getD subs i sub
+  this = is ∙ inverse.sub-at-tells s place (getD subs i sub) (links .0)
+
+  pub ends : endOf sub ≤ length s
+  ends = omega (arith, ap endOf this, links .1 .0)
+
+  pub onward : Chain s (endOf sub) (drop (i + 1) subs)
+  onward = rw (add-one i) (subst (λ (x : SubFrame). Chain s (endOf x) (drop (suc i) subs)) (sym this) (links .1 .1))
