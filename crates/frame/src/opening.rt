@@ -86,15 +86,15 @@ pub fn check(frame: &[u8]) -> Checked
     ensures at { λ r. ⌜ r .at ≡ opening (now (frame .entry)) .at ⌝ }
     ensures count { λ r. ⌜ r .count ≡ length (opening (now (frame .entry)) .subs) ⌝ }
 {
+    if frame.len() == 0 {
+        return refused(refusal::FIELD_EMPTY, 0);
+    }
     if field_fits(frame) {
         let found = scan_from(frame, 0, 0);
         if found.number == refusal::SOUND {
             return found;
         }
         return refused(found.number, found.at);
-    }
-    if frame.len() == 0 {
-        return refused(refusal::FIELD_EMPTY, 0);
     }
     refused(refusal::FIELD_TOO_LONG, 0)
 }
