@@ -1,12 +1,13 @@
 -- What `voiceRead` and `voiceMade` give in each of their cases.
-use Prim.Native.Nat.{ℕ, _+_, _*_, _/_, _%_, _<_, _≤_}
+use Prim.Native.Nat.{ℕ, _+_, _-_, _*_, _/_, _%_, _<_, _≤_}
 use mathlib.Core.Path.{_≡_, refl, ap, _∙_}
 use mathlib.Core.List.{List, _∷_, _++_}
 use mathlib.Core.Bool.{true, false, cond, _&&_}
 use native.Mathlib.Omega.{arith}
 use borrow.Author.Tests.{lt-ltb, le-ltb, le-leb, lt-leb, eq-eqb, ne-eqb, ltb-false, leb-false}
 use lib.Dec.{ltb, leb, eqb}
-use lib.ListN.{length, getD, take, drop, length-append}
+use lib.ListN.{length, getD, take, drop, length-drop, length-append}
+use lib.Seq.{take-all}
 use Rattle.octets.proofs.MadeBack.{never-made}
 use Rattle.refusal.specs.Numbers.{sound, typeNotAllowed, lengthWrong, reservedCode, valueOutOfRange, codingTypeUnknown}
 use Rattle.refusal.specs.Order.{_gives_}
@@ -112,12 +113,15 @@ read-by r payload h =
 -- the same, by what the code has
 module _ (r : Record) (payload : List ℕ) (front o n : ℕ) (is : front ≡ frontOf r) (whole : front ≤ length payload)
     (octet : o ≡ getD (take front payload) 0 0)
-    (told : n ≡ bodyNumber r (o % 16) (drop front payload)) where
+    (told : n ≡ bodyNumber r (o % 16) (take (length payload - front) (drop front payload))) where
   octet-is : o ≡ frontOctet r payload
   octet-is = octet ∙ rw is
 
   number-is : n ≡ bodyNumber r (codingIn r payload) (bodyIn r payload)
-  number-is = told ∙ rw (octet-is, is)
+  number-is =
+      told
+      ∙ ap (bodyNumber r (o % 16)) (take-all (length payload - front) (drop front payload) (simp length-drop (omega arith)))
+      ∙ rw (octet-is, is)
 
   read-is : voiceRead r payload ≡ cond (eqb n 0) (Voice (record { 0 = o / 16 }) (o % 16) front) (BadVoice n)
   read-is = read-by r payload (rw is at whole) ∙ rw (← number-is, ← octet-is, ← is)

@@ -6,10 +6,10 @@ use record::syntax::Record;
 use record::syntax::Syntax;
 ghost use mathlib.Core.Path.{_≡_};
 ghost use mathlib.Core.Bool.{true};
-ghost use lib.ListN.{length, getD};
-ghost use Prim.Native.Nat.{ℕ, _*_, _<_};
+ghost use lib.ListN.{getD};
+ghost use Prim.Native.Nat.{_*_, _<_};
 ghost use Rattle.octets.specs.Made.{fitOf, putMade, leftMade};
-ghost use mathlib.Core.List.{List, _∷_};
+ghost use mathlib.Core.List.{_∷_};
 ghost use Rattle.refusal.specs.Numbers.{sound, typeNotAllowed};
 ghost use Rattle.refusal.specs.Order.{_gives_, inOrder};
 ghost use Rattle.voice.specs.Voice.{codings, pcmOctets, g727Octets, blockOctets, g7231Octets, isG7231, seqFront, frontBy, frontOf, voiceless, bodyRefusals, voiceRead, mostSequence, voiceMade};
@@ -107,40 +107,43 @@ fn is_g7231(syntax: Syntax) -> bool
     }
 }
 
-// The refusal number of one G.723.1 frame of so many octets, from its first one.
-fn frame_refusal(coding: u8, len: usize, first: u8) -> u8
-    ensures { λ r. ⌜ ((rec : Record) (body : List ℕ) → isG7231 (rec .syntax) ≡ true → length body ≡ len → getD body 0 0 ≡ first → r ≡ inOrder (bodyRefusals rec coding body) (λ number. number) sound) ⌝ }
+// The refusal number of one G.723.1 frame.
+fn frame_refusal(rec: Record, coding: u8, body: &[u8]) -> u8
+    requires { ⌜ isG7231 (rec .syntax) ≡ true ⌝ }
+    ensures { λ r. ⌜ r ≡ inOrder (bodyRefusals rec coding (now (body .entry))) (λ number. number) sound ⌝ }
 {
-    if len == 0 {
+    if body.len() == 0 {
         return refusal::LENGTH_WRONG;
     }
     if coding != 0 {
         return refusal::CODING_TYPE_UNKNOWN;
     }
+    let first = body[0];
     if first % 4 == 3 {
         return refusal::RESERVED_CODE;
     }
-    if len == g7231_octets(first) {
+    if body.len() == g7231_octets(first) {
         return refusal::SOUND;
     }
     refusal::LENGTH_WRONG
 }
 
-// The refusal number of a body of so many octets with its coding type, under a record with this syntax and m, from its first octet.
-fn body_refusal(syntax: Syntax, m: u8, coding: u8, len: usize, first: u8) -> u8
-    ensures { λ r. ⌜ ((rec : Record) (body : List ℕ) → rec .syntax ≡ syntax → rec .m ≡ m → length body ≡ len → getD body 0 0 ≡ first → r ≡ inOrder (voiceless (rec .syntax) gives typeNotAllowed ∷ bodyRefusals rec coding body) (λ number. number) sound) ⌝ }
+// The refusal number of a body with its coding type.
+fn body_refusal(rec: Record, coding: u8, body: &[u8]) -> u8
+    ensures { λ r. ⌜ r ≡ inOrder (voiceless (rec .syntax) gives typeNotAllowed ∷ bodyRefusals rec coding (now (body .entry))) (λ number. number) sound ⌝ }
 {
+    let syntax = rec.syntax;
     let codings = coding_count(syntax);
     if codings == 0 {
         return refusal::TYPE_NOT_ALLOWED;
     }
     if is_g7231(syntax) {
-        return frame_refusal(coding, len, first);
+        return frame_refusal(rec, coding, body);
     }
     if codings <= coding {
         return refusal::CODING_TYPE_UNKNOWN;
     }
-    if len == blocks_octets(m, syntax, coding) {
+    if body.len() == blocks_octets(rec.m, syntax, coding) {
         return refusal::SOUND;
     }
     refusal::LENGTH_WRONG
@@ -184,9 +187,7 @@ pub fn read_voice(rec: Record, payload: &[u8]) -> VoiceRead
         return VoiceRead::BadVoice(refusal::LENGTH_WRONG);
     }
     let octet = octets::octet(&payload[..front], 0);
-    let syntax = rec.syntax;
-    let first = octets::octet(payload, front);
-    let number = body_refusal(syntax, rec.m, octet % 16, payload.len() - front, first);
+    let number = body_refusal(rec, octet % 16, &payload[front..]);
     if number == refusal::SOUND {
         return VoiceRead::Voice {
             sequence: VoiceCount(octet / 16),
@@ -208,9 +209,7 @@ fn most_sequence(front: usize) -> u8
 pub fn fit_voice(rec: Record, sequence: VoiceCount, coding: u8, body: &[u8]) -> Fit
     ensures { λ r. ⌜ r ≡ fitOf (voiceMade rec (sequence .0) coding (now (body .entry))) ⌝ }
 {
-    let syntax = rec.syntax;
-    let first = octets::octet(body, 0);
-    let number = body_refusal(syntax, rec.m, coding, body.len(), first);
+    let number = body_refusal(rec, coding, body);
     if number != refusal::SOUND {
         return Fit::Unfit(number);
     }

@@ -1,36 +1,29 @@
--- `voice::voice::body_refusal` meets its contract, for every record with this syntax and m.
-use Prim.Native.Nat.{ℕ, _*_, _<_, _≤_}
-use mathlib.Core.Path.{_≡_, sym, ap, _∙_}
+-- `voice::voice::body_refusal` meets its contract.
+use Prim.Native.Nat.{_<_}
+use mathlib.Core.Path.{_≡_, sym, _∙_}
 use mathlib.Core.Bool.{false}
-use Rattle.record.specs.declared.syntax.Syntax.{Syntax}
-use Rattle.record.specs.declared.syntax.Record.{Record}
-use Rattle.voice.specs.Voice.{codings, isG7231, blockOctets}
+use Rattle.voice.specs.Voice.{codings, isG7231}
 use Rattle.voice.proofs.VoiceCases as cases
 use borrow.Author.Needs.{needs}
 use Rattle.voice.proofs.voice.body_refusal.Statement.{statement}
 use Rattle.voice.proofs.voice.body_refusal.Tie as tie
 
-voice : (c : tie.Else1) (rec : Record) → rec .syntax ≡ c .before .before .args .syntax → codings (rec .syntax) ≡ 0 → ⊥
-voice c rec s z = c .if1 .left (c .before .coding-count .ensures ∙ sym (ap codings s) ∙ z)
+voice : (c : tie.Else1) → codings (c .before .before .before .args .rec .syntax) ≡ 0 → ⊥
+voice c z = c .if1 .left (c .before .coding-count .ensures ∙ z)
 
-blocks : (c : tie.Else2) (rec : Record) → rec .syntax ≡ c .before .before .before .before .args .syntax → isG7231 (rec .syntax) ≡ false
-blocks c rec s = ap isG7231 s ∙ sym (c .before .is-g7231 .ensures) ∙ c .if2 .left
+blocks : (c : tie.Else2) → isG7231 (c .before .before .before .before .before .args .rec .syntax) ≡ false
+blocks c = sym (c .before .is-g7231 .ensures) ∙ c .if2 .left
 
-known : (c : tie.Else3) (rec : Record) → rec .syntax ≡ c .before .before .before .before .before .args .syntax → c .before .before .before .before .before .args .coding < codings (rec .syntax)
-known c rec s = rw s (rw (c .before .before .before .before .coding-count .ensures) at (c .if3 .left))
-
--- the octets of its blocks
-size :
-    (rec : Record) (syntax : Syntax) (m coding : ℕ) → rec .syntax ≡ syntax → rec .m ≡ m → m * blockOctets syntax coding ≡ rec .m * blockOctets (rec .syntax) coding
-size rec syntax m coding s e = rw (s, e)
+known : (c : tie.Else3) → let a = c .before .before .before .before .before .before .args in a .coding < codings (a .rec .syntax)
+known c = rw (c .before .before .before .before .coding-count .ensures) at (c .if3 .left)
 
 coding-count-requires : tie.Need-coding-count-requires
 coding-count-requires c κs = search needs
 
 returns : tie.Need-returns
 returns c =
-    λ rec body s m n o.
-    sym (cases.no-voice rec (c .before .before .args .coding) body (ap codings s ∙ sym (c .before .coding-count .ensures) ∙ c .if1 .taken))
+    let a = c .before .before .before .args in
+    sym (cases.no-voice (a .rec) (a .coding) (a .body .now) (sym (c .before .coding-count .ensures) ∙ c .if1 .taken))
 
 is-g7231-requires : tie.Need-is-g7231-requires
 is-g7231-requires c κs = search needs
@@ -40,38 +33,26 @@ frame-refusal-requires c κs = search needs
 
 returns-2 : tie.Need-returns-2
 returns-2 c =
-    λ rec body s m n o.
-    c .frame-refusal .ensures rec body (ap isG7231 s ∙ sym (c .before .before .is-g7231 .ensures) ∙ c .before .if2 .taken) n o
-    ∙ sym (cases.with-voice rec (c .before .before .before .before .before .args .coding) body (voice (c .before .before .before) rec s))
+    let a = c .before .before .before .before .before .before .args in
+    c .frame-refusal .ensures ∙ sym (cases.with-voice (a .rec) (a .coding) (a .body .now) (voice (c .before .before .before)))
 
 returns-3 : tie.Need-returns-3
 returns-3 c =
-    λ rec body s m n o.
-    let beyond : codings (rec .syntax) ≤ c .before .before .before .before .before .args .coding = rw s (rw (c .before .before .before .before .coding-count .ensures) at (c .if3 .taken)) in
-    sym
-    (cases.with-voice rec (c .before .before .before .before .before .args .coding) body (voice (c .before .before .before) rec s)
-    ∙ cases.block-unknown rec (c .before .before .before .before .before .args .coding) body (blocks (c .before) rec s) beyond)
+    let a = c .before .before .before .before .before .before .args in
+    sym (cases.with-voice (a .rec) (a .coding) (a .body .now) (voice (c .before .before .before)) ∙ cases.block-unknown (a .rec) (a .coding) (a .body .now) (blocks (c .before)) (rw (c .before .before .before .before .coding-count .ensures) at (c .if3 .taken)))
 
 blocks-octets-requires : tie.Need-blocks-octets-requires
 blocks-octets-requires c κs = search needs
 
 returns-4 : tie.Need-returns-4
 returns-4 c =
-    λ rec body s m n o.
-    let a = c .before .before .before .before .before .before .before .args in
-    sym
-    (cases.with-voice rec (a .coding) body (voice (c .before .before .before .before .before) rec s)
-    ∙ cases.block-sound rec (a .coding) body (blocks (c .before .before .before) rec s) (known (c .before .before) rec s)
-    (n ∙ c .if4 .taken ∙ c .before .blocks-octets .ensures ∙ size rec (a .syntax) (a .m) (a .coding) s m))
+    let a = c .before .before .before .before .before .before .before .before .args in
+    sym (cases.with-voice (a .rec) (a .coding) (a .body .now) (voice (c .before .before .before .before .before)) ∙ cases.block-sound (a .rec) (a .coding) (a .body .now) (blocks (c .before .before .before)) (known (c .before .before)) (c .if4 .taken ∙ c .before .blocks-octets .ensures))
 
 returns-5 : tie.Need-returns-5
 returns-5 c =
-    λ rec body s m n o.
-    let a = c .before .before .before .before .before .before .before .args in
-    sym
-    (cases.with-voice rec (a .coding) body (voice (c .before .before .before .before .before) rec s)
-    ∙ cases.block-wrong rec (a .coding) body (blocks (c .before .before .before) rec s) (known (c .before .before) rec s)
-    (λ e. c .if4 .left (sym n ∙ e ∙ sym (size rec (a .syntax) (a .m) (a .coding) s m) ∙ sym (c .before .blocks-octets .ensures))))
+    let a = c .before .before .before .before .before .before .before .before .args in
+    sym (cases.with-voice (a .rec) (a .coding) (a .body .now) (voice (c .before .before .before .before .before)) ∙ cases.block-wrong (a .rec) (a .coding) (a .body .now) (blocks (c .before .before .before)) (known (c .before .before)) (λ e. c .if4 .left (e ∙ sym (c .before .blocks-octets .ensures))))
 
 pub body-refusal-spec : {M : Type 1} → statement M
 body-refusal-spec =

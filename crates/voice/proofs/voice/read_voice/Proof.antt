@@ -1,23 +1,11 @@
 -- `voice::voice::read_voice` meets its contract.
-use Prim.Native.Nat.{_%_}
-use mathlib.Core.Path.{_≡_, refl, sym, _∙_}
-use lib.ListN.{drop, length-drop}
-use native.Mathlib.Nat.{add-zero}
-use lib.Seq.{getD-drop, length-take-le}
+use Prim.Native.Nat.{_-_}
+use mathlib.Core.Path.{sym}
+use lib.Seq.{length-take-le}
 use Rattle.voice.proofs.VoiceCases as cases
 use borrow.Author.Needs.{needs}
 use Rattle.voice.proofs.voice.read_voice.Statement.{statement}
 use Rattle.voice.proofs.voice.read_voice.Tie as tie
-
--- the number of the body
-told :
-    (c : tie.After-body-refusal)
-    → let a = c .before .before .before .before .before .before .before .args in
-    c .body-refusal .result ≡ cases.bodyNumber (a .rec) (c .before .before .octet .result % 16) (drop (c .before .before .before .before .before .front-size .result) (a .payload .now))
-told c =
-    let a = c .before .before .before .before .before .before .before .args in
-    let front = c .before .before .before .before .before .front-size .result in
-    c .body-refusal .ensures (a .rec) (drop front (a .payload .now)) refl refl (length-drop front (a .payload .now)) (getD-drop front (a .payload .now) 0 0 ∙ rw (add-zero front) (sym (c .before .octet2 .ensures)))
 
 front-size-requires : tie.Need-front-size-requires
 front-size-requires c κs = search needs
@@ -33,11 +21,14 @@ slice-aggregate-octet c = sym (length-take-le _ _ (c .before .if1 .left))
 octet-requires : tie.Need-octet-requires
 octet-requires c κs = search needs
 
-octet-requires-2 : tie.Need-octet-requires-2
-octet-requires-2 c κs = search needs
-
 sub-body-refusal : tie.Need-sub-body-refusal
 sub-body-refusal c = search needs
+
+part-body-refusal-start : tie.Need-part-body-refusal-start
+part-body-refusal-start c = search needs
+
+part-body-refusal-end : tie.Need-part-body-refusal-end
+part-body-refusal-end c = search needs
 
 body-refusal-requires : tie.Need-body-refusal-requires
 body-refusal-requires c κs = search needs
@@ -45,12 +36,12 @@ body-refusal-requires c κs = search needs
 returns-2 : tie.Need-returns-2
 returns-2 c =
     let a = c .before .before .before .before .before .before .before .before .args in
-    sym (cases.sound-read (a .rec) (a .payload .now) _ _ _ (c .before .before .before .before .before .before .front-size .ensures) (c .before .before .before .before .before .if1 .left) (c .before .before .before .octet .ensures) (told (c .before)) (c .if2 .taken))
+    sym (cases.sound-read (a .rec) (a .payload .now) _ _ _ (c .before .before .before .before .before .before .front-size .ensures) (c .before .before .before .before .before .if1 .left) (c .before .before .before .octet .ensures) (c .before .body-refusal .ensures) (c .if2 .taken))
 
 returns-3 : tie.Need-returns-3
 returns-3 c =
     let a = c .before .before .before .before .before .before .before .before .args in
-    sym (cases.refused-read (a .rec) (a .payload .now) _ _ _ (c .before .before .before .before .before .before .front-size .ensures) (c .before .before .before .before .before .if1 .left) (c .before .before .before .octet .ensures) (told (c .before)) (c .if2 .left))
+    sym (cases.refused-read (a .rec) (a .payload .now) _ _ _ (c .before .before .before .before .before .before .front-size .ensures) (c .before .before .before .before .before .if1 .left) (c .before .before .before .octet .ensures) (c .before .body-refusal .ensures) (c .if2 .left))
 
 pub read-voice-spec : {M : Type 1} → statement M
 read-voice-spec =
@@ -60,8 +51,9 @@ read-voice-spec =
     returns
     slice-aggregate-octet
     octet-requires
-    octet-requires-2
     sub-body-refusal
+    part-body-refusal-start
+    part-body-refusal-end
     body-refusal-requires
     returns-2
     returns-3)
