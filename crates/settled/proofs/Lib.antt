@@ -19,4 +19,6 @@ pub mod Dialling
 pub mod Seizing
 pub mod Trunk
 pub mod Listing
+pub mod Printing
+pub mod Following
 pub mod Cabinet
