@@ -216,7 +216,7 @@ fn follow(cid: u8) {
 
 // The one argument: a number as the provisioning text has it, at most 255. It is put before LFs, so that a longer one than three
 // octets is no number; and one that has an LF itself is longer than its number.
-fn argument() -> Argument {
+fn read_argument() -> Argument {
     if os::arg_count() != 2 {
         return Argument::NoCid;
     }
@@ -224,8 +224,10 @@ fn argument() -> Argument {
     let n = os::arg(1, &mut word);
     match provisioning::value::number_of(&word) {
         Value::Whole { value, size } => {
-            if size == n + 1 && value <= 255 {
-                return Argument::Cid(value as u8);
+            if size == n + 1 {
+                if value <= 255 {
+                    return Argument::Cid(value as u8);
+                }
             }
             Argument::NoCid
         }
@@ -234,7 +236,7 @@ fn argument() -> Argument {
 }
 
 fn main() {
-    match argument() {
+    match read_argument() {
         Argument::Cid(cid) => {
             follow(cid);
         }

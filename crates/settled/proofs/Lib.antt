@@ -19,5 +19,7 @@ pub mod Dialling
 pub mod Seizing
 pub mod Trunk
 pub mod Listing
+pub mod Printing
+pub mod Following
 pub mod Cabinet
 pub mod Console
