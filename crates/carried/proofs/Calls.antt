@@ -46,7 +46,7 @@ use Rattle.carried.specs.Emissions.{Emission, octetsOf}
 use Rattle.carried.specs.Digits as digits
 use Rattle.carried.specs.Signalling as signalling
 use Rattle.carried.specs.Trunks.{Coming, came, other, toldOf, dialledMarks, digitRecord, seizedMarks, signallingRecord}
-use Rattle.carried.specs.Tied.{Puts, DigitsPut, DigitsSent, no-more-digits, digits-on, DigitsReceived, no-more-heard, receives-on, hears-on, SignallingPut, SignallingSent, no-more-samples, samples-on, SignallingReceived, no-more-come, comes-on, typeOf, octetsIn, TrunkTold, no-more-told, tells-on, digitMarks, signallingMarks, CallsAre, DigitCallsCarried, SignallingCallsCarried, FreshTrunk, TrunkDigitCallsCarried, TrunkSignallingCallsCarried}
+use Rattle.carried.specs.Tied.{Puts, DigitsPut, DigitCallsSent, no-more-digits, digits-on, DigitsReceived, no-more-heard, receives-on, hears-on, SignallingPut, SignallingSent, no-more-samples, samples-on, SignallingReceived, no-more-come, comes-on, typeOf, octetsIn, TrunkTold, no-more-told, tells-on, digitMarks, signallingMarks, CallsAre, DigitCallsCarried, SignallingCallsCarried, FreshTrunk, TrunkDigitCallsCarried, TrunkSignallingCallsCarried}
 use Rattle.carried.proofs.Digits.{digits-carried}
 use Rattle.carried.proofs.Signalling.{signalling-carried}
 use Rattle.carried.proofs.Trunks.{trunk-digits-carried, trunk-signalling-carried}
@@ -132,7 +132,7 @@ digits-emitted n (Sent d) octets puts = ap (digits.emittedAs n (Sent d)) (puts-a
 digits-emitted n Unsent octets puts = refl
 digits-emitted n (BadEntry number) octets puts = refl
 
-digits-sent : (s : digit-sender.Sender) (n : ℕ) (es : List digit-entry.Entry) (ps : List Emission) → DigitsSent s n es ps → ps ≡ digits.emissions s n es
+digits-sent : (s : digit-sender.Sender) (n : ℕ) (es : List digit-entry.Entry) (ps : List Emission) → DigitCallsSent s n es ps → ps ≡ digits.emissions s n es
 digits-sent s0 n0 es0 ps0 (no-more-digits s n) = refl
 digits-sent s0 n0 es0 ps0 (digits-on s n e es x octets ps call puts more) =
     let is : x ≡ sending s e =

@@ -103,13 +103,13 @@ abbrev pub DigitsPut : digits-layout.Digits → List ℕ → ℕ → Put → Lis
 DigitsPut d room at answer left =
     Met 1 put-digits-kinds.ps put-digits-kinds.r put-digits-reads.Post {I = List ℕ × ℕ × digits-layout.Digits} {O = Put × List ℕ} (λ κs a. (now (a .0), a .1 .0, a .1 .1 .0)) (λ κs x s. (x, now (s .0))) (room, at, d) (answer, left)
 
-pub data DigitsSent : digit-sender.Sender → ℕ → List digit-entry.Entry → List Emission → Type 0 where
-  no-more-digits : (s : digit-sender.Sender) (n : ℕ) → DigitsSent s n [] []
+pub data DigitCallsSent : digit-sender.Sender → ℕ → List digit-entry.Entry → List Emission → Type 0 where
+  no-more-digits : (s : digit-sender.Sender) (n : ℕ) → DigitCallsSent s n [] []
   digits-on : (s : digit-sender.Sender) (n : ℕ) (e : digit-entry.Entry) (es : List digit-entry.Entry) (x : digit-taken.Taken) (octets : List ℕ) (ps : List Emission)
       → Met 0 digit-send-kinds.ps digit-send-kinds.r digit-send-reads.Post {I = digit-sender.Sender × digit-entry.Entry} (λ κs a. (a .0, a .1 .0)) (λ κs x s. x) (s, e) x
       → ((d : digits-layout.Digits) → x .answer ≡ Sent d → Puts (DigitsPut d) octets)
-      → DigitsSent (x .sender) (digits.numberAfter n (x .answer)) es ps
-      → DigitsSent s n (e ∷ es) (digits.emittedAs n (x .answer) octets ++ ps)
+      → DigitCallsSent (x .sender) (digits.numberAfter n (x .answer)) es ps
+      → DigitCallsSent s n (e ∷ es) (digits.emittedAs n (x .answer) octets ++ ps)
 
 -- A digit receiver: calls of `receive` and `hear_voice`, each handed the receiver that the one before returned.
 pub data DigitsReceived : digit-receiver.Receiver → List digits.Heard → List (Mark Window) → Type 0 where
@@ -169,7 +169,7 @@ signallingMarks (x ∷ xs) = seizedMarks (x .seized) ++ signallingMarks xs
 
 -- What comes of such calls is what demand 3 speaks of.
 pub record CallsAre : Type 0 where
-  pub digits-sent : (s : digit-sender.Sender) (n : ℕ) (es : List digit-entry.Entry) (ps : List Emission) → DigitsSent s n es ps → ps ≡ digits.emissions s n es
+  pub digits-sent : (s : digit-sender.Sender) (n : ℕ) (es : List digit-entry.Entry) (ps : List Emission) → DigitCallsSent s n es ps → ps ≡ digits.emissions s n es
   pub digits-received : (r : digit-receiver.Receiver) (hs : List digits.Heard) (ms : List (Mark Window)) → DigitsReceived r hs ms → ms ≡ digits.marks r hs
   pub signalling-sent : (s : signalling-sender.Sender) (n : ℕ) (es : List signalling-entry.Entry) (ps : List Emission) → SignallingSent s n es ps → ps ≡ signalling.emissions s n es
   pub signalling-received : (r : signalling-receiver.Receiver) (ps : List Emission) (ms : List (Mark (List ℕ))) → SignallingReceived r ps ms → ms ≡ signalling.marks r ps
@@ -185,7 +185,7 @@ pub record DigitCalls (entries : List digit-entry.Entry) (first second : List di
   pub sender-fresh : Met 0 digit-sender-kinds.ps digit-sender-kinds.r digit-sender-reads.Post (λ κs a. tt {0}) (λ κs x s. x) (tt {0}) sender
   pub receiver-fresh : Met 0 digit-receiver-kinds.ps digit-receiver-kinds.r digit-receiver-reads.Post (λ κs a. tt {0}) (λ κs x s. x) (tt {0}) receiver
   pub receiver2-fresh : Met 0 digit-receiver-kinds.ps digit-receiver-kinds.r digit-receiver-reads.Post (λ κs a. tt {0}) (λ κs x s. x) (tt {0}) receiver2
-  pub sends : DigitsSent sender 0 entries payloads
+  pub sends : DigitCallsSent sender 0 entries payloads
   pub receives : DigitsReceived receiver first marks
   pub receives2 : DigitsReceived receiver2 second marks2
   pub some : Sublist (digits.payloadsOf second) payloads

@@ -1,5 +1,5 @@
 -- What following takes of a piece, and prints.
-use Prim.Native.Nat.{ℕ, _≤_}
+use Prim.Native.Nat.{ℕ, _<_, _≤_}
 use mathlib.Core.Path.{_≡_, ap}
 use mathlib.Core.List.{List}
 use native.Mathlib.Omega.{arith}
@@ -8,9 +8,10 @@ use Rattle.octets.specs.Room.{written}
 use Rattle.recording.specs.declared.stream.Begun.{Begun}
 use Rattle.recording.proofs.Bounds as bounds
 use Rattle.recording.proofs.Walks as walks
+use Rattle.recording.proofs.Joins as joins
 use Rattle.trunk.specs.declared.Trunk.{Trunk}
 use Rattle.following.specs.declared.stream.Followed.{Followed}
-use Rattle.following.specs.Following.{lineFollowing}
+use Rattle.following.specs.Following.{lineFollowing, mostFollowed}
 use Rattle.following.specs.Stream.{pieceFollowed, answer}
 
 module _ (room : ℕ) (table : List ℕ) (cid : ℕ) (begun : Begun) (kept : List ℕ) (t : Trunk) (piece : List ℕ) (r : Followed) (is : r ≡ answer (pieceFollowed room table cid begun kept t piece)) where
@@ -20,6 +21,14 @@ module _ (room : ℕ) (table : List ℕ) (cid : ℕ) (begun : Begun) (kept : Lis
         arith,
         ap (λ (l : Followed). l .taken) is,
         walks.taken-within (lineFollowing table cid) 20032 (length piece) room 0 begun kept t piece,
+      )
+
+  pub takes-some : mostFollowed ≤ room → 0 < length piece → 0 < r .taken
+  takes-some enough some =
+      omega (
+        arith,
+        ap (λ (l : Followed). l .taken) is,
+        joins.some-taken Trunk (lineFollowing table cid) 20032 room begun kept t piece enough some,
       )
 
   pub prints-within : (out after : List ℕ) → after ≡ written out 0 (pieceFollowed room table cid begun kept t piece .text) → length after ≡ length out → r .used ≤ length after

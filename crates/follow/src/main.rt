@@ -8,6 +8,7 @@ use recording::stream::MOST_KEPT;
 use trunk::Trunk;
 ghost use Prim.Native.Nat.{_≤_};
 ghost use lib.ListN.{length};
+ghost use Rattle.following.specs.Following.{mostFollowed};
 
 // How the next line stands, the trunk, and whether printing went well so far.
 struct Stands {
@@ -57,7 +58,9 @@ fn follow_all(
     cid: u8,
     trunk: Trunk,
     out: &mut [u8],
-) -> Stands {
+) -> Stands
+    requires { ⌜ mostFollowed ≤ length (now out) ⌝ }
+{
     let mut stands = begun;
     let mut after = trunk;
     let mut at: usize = 0;
@@ -84,14 +87,6 @@ fn follow_all(
                 well: false,
             };
         }
-        // The room is there for a line, so that some of the piece is taken.
-        if told.taken == 0 {
-            return Stands {
-                begun: stands,
-                trunk: after,
-                well: true,
-            };
-        }
         at += told.taken;
     }
     Stands {
@@ -110,7 +105,9 @@ fn follow_more(
     cid: u8,
     trunk: Trunk,
     out: &mut [u8],
-) -> Stands {
+) -> Stands
+    requires { ⌜ mostFollowed ≤ length (now out) ⌝ }
+{
     let mut stands = begun;
     let mut after = trunk;
     // An end that no run reaches.
@@ -166,6 +163,7 @@ fn follow_rest(
 )
     requires { ⌜ from ≤ to ⌝ }
     requires { ⌜ to ≤ length (now input) ⌝ }
+    requires { ⌜ mostFollowed ≤ length (now out) ⌝ }
 {
     let none = Begun { have: 0, number: 0 };
     let first = follow_all(
@@ -189,10 +187,10 @@ fn follow_rest(
     }
 }
 
-// Prints the lines of a refused text.
-fn refuse(out: &mut [u8], number: u8, line: usize) {
+// Prints the lines of a refused text, and answers whether that went well.
+fn refuse(out: &mut [u8], number: u8, line: usize) -> bool {
     let used = printing::refused::put_refused_text(out, 0, number, line);
-    print(out, used);
+    print(out, used)
 }
 
 // Follows a recording for a sub-channel.
@@ -208,14 +206,15 @@ fn follow(cid: u8) {
             follow_rest(&mut input, end, n, &mut kept, &table, cid, &mut out);
         }
         TextAnswer::Refused { number, line } => {
-            refuse(&mut out, number, line);
-            say_cr(&input[..end]);
+            if refuse(&mut out, number, line) {
+                say_cr(&input[..end]);
+            }
         }
     }
 }
 
-// The one argument: a number as the provisioning text has it, at most 255. It is put before LFs, so that a longer one than three
-// octets is no number; and one that has an LF itself is longer than its number.
+// The one argument: a number as the provisioning text has it, at most 255. It is put before LFs, and its size must be that of the
+// number: 0 where it has more than four octets, and more where it has an LF itself.
 fn read_argument() -> Argument {
     if os::arg_count() != 2 {
         return Argument::NoCid;

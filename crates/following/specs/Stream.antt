@@ -6,10 +6,10 @@ use Rattle.recording.specs.declared.stream.Begun.{Begun}
 use Rattle.recording.specs.Walk.{Walk, pieceTold, lastTold}
 use Rattle.trunk.specs.declared.Trunk.{Trunk}
 use Rattle.following.specs.declared.stream.Followed.{Followed}
-use Rattle.following.specs.Following.{lineFollowing, mostFollowed}
+use Rattle.following.specs.Following.{follower}
 
 abbrev pub pieceFollowed : ℕ → List ℕ → ℕ → Begun → List ℕ → Trunk → List ℕ → Walk Trunk
-pieceFollowed room table cid begun kept t piece = pieceTold (lineFollowing table cid) mostFollowed room begun kept t piece
+pieceFollowed room table cid begun kept t piece = pieceTold (follower cid .tell table) (follower cid .most) room begun kept t piece
 
 -- the answer of the code
 abbrev pub answer : Walk Trunk → Followed
@@ -24,4 +24,4 @@ answer w =
 
 -- what is printed at the end of the input
 abbrev pub lastFollowed : ℕ → List ℕ → ℕ → Begun → List ℕ → Trunk → List ℕ
-lastFollowed room table cid begun kept t = lastTold (lineFollowing table cid) mostFollowed room begun kept t .text
+lastFollowed room table cid begun kept t = lastTold (follower cid .tell table) (follower cid .most) room begun kept t .text

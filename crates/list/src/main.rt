@@ -137,10 +137,10 @@ fn list_rest(
     }
 }
 
-// Prints the lines of a refused text.
-fn refuse(out: &mut [u8], number: u8, line: usize) {
+// Prints the lines of a refused text, and answers whether that went well.
+fn refuse(out: &mut [u8], number: u8, line: usize) -> bool {
     let used = printing::refused::put_refused_text(out, 0, number, line);
-    print(out, used);
+    print(out, used)
 }
 
 fn main() {
@@ -155,8 +155,9 @@ fn main() {
             list_rest(&mut input, end, n, &mut kept, &table, &mut out);
         }
         TextAnswer::Refused { number, line } => {
-            refuse(&mut out, number, line);
-            say_cr(&input[..end]);
+            if refuse(&mut out, number, line) {
+                say_cr(&input[..end]);
+            }
         }
     }
 }

@@ -6,10 +6,10 @@ use lib.ListN.{length}
 use Rattle.recording.specs.declared.stream.Begun.{Begun}
 use Rattle.recording.specs.Walk.{Walk, pieceTold, lastTold}
 use Rattle.listing.specs.declared.stream.Listed.{Listed}
-use Rattle.listing.specs.Listing.{tellLine, mostListed}
+use Rattle.listing.specs.Listing.{lister}
 
 abbrev pub pieceListed : ℕ → List ℕ → Begun → List ℕ → List ℕ → Walk (Unit {0})
-pieceListed room table begun kept piece = pieceTold (tellLine table) mostListed room begun kept tt piece
+pieceListed room table begun kept piece = pieceTold (lister .tell table) (lister .most) room begun kept tt piece
 
 -- the answer of the code
 abbrev pub answer : Walk (Unit {0}) → Listed
@@ -17,4 +17,4 @@ answer w = record { taken = w .taken; used = length (w .text); have = w .next .h
 
 -- what is listed at the end of the input
 abbrev pub lastListed : ℕ → List ℕ → Begun → List ℕ → List ℕ
-lastListed room table begun kept = lastTold (tellLine table) mostListed room begun kept tt .text
+lastListed room table begun kept = lastTold (lister .tell table) (lister .most) room begun kept tt .text

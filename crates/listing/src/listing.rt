@@ -1,4 +1,4 @@
-// The listing of a line, and of a refused text (document 01, "Listing program").
+// The listing of a line (document 01, "Listing program").
 use frame::header::SubFrame;
 use octets::Put;
 use printing::field::put_field;

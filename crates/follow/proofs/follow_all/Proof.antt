@@ -1,9 +1,10 @@
 -- `follow::follow_all` is safe and ends: each turn takes an octet or more of the piece.
-use Prim.Native.Nat.{_-_, _≤_}
+use Prim.Native.Nat.{_-_, _<_, _≤_}
 use mathlib.Core.Path.{_≡_}
 use native.Mathlib.Omega.{arith}
 use lib.ListN.{length}
 use Rattle.recording.proofs.Bounds as bounds
+use Rattle.following.specs.Following.{mostFollowed}
 use Rattle.follow.proofs.Bounds as within
 use borrow.Author.Needs.{needs}
 use Rattle.follow.proofs.follow_all.Statement.{statement}
@@ -42,41 +43,41 @@ same-length c = search needs
 returns : tie.Need-returns Inv-loop μ-loop
 returns c = search needs
 
+add-at : tie.Need-add-at Inv-loop μ-loop
+add-at c =
+    let a = c .before .before .before .before .before .before .before .before .before .before .before .before .before .before .before .args in
+    let l = c .before .before .before .before .before .before .before .before .before .before .before .before .loop in
+    let piece = c .before .before .before .before .before .before .before .follow-piece in
+    let size = bounds.rest-size (a .piece .now) (l .at) in
+    let takes = within.takes-within (length (l .out)) (a .table .now) (a .cid) (l .stands) (l .kept) (l .after) (bounds.rest (a .piece .now) (l .at)) (piece .result) (piece .ensures .0) in
+    omega (arith, c .before .before .before .before .before .before .before .before .before .before .before .before .before .before .before .good .0 .0)
+
+loop-less : tie.Need-loop-less Inv-loop μ-loop
+loop-less c =
+    let a = c .before .before .before .before .before .before .before .before .before .before .before .before .before .before .before .args in
+    let l = c .before .before .before .before .before .before .before .before .before .before .before .before .loop in
+    let piece = c .before .before .before .before .before .before .before .follow-piece in
+    let size = bounds.rest-size (a .piece .now) (l .at) in
+    let takes = within.takes-within (length (l .out)) (a .table .now) (a .cid) (l .stands) (l .kept) (l .after) (bounds.rest (a .piece .now) (l .at)) (piece .result) (piece .ensures .0) in
+    let enough : mostFollowed ≤ length (l .out) = omega (arith, c .before .before .before .before .before .before .before .before .before .before .before .before .before .before .before .pre, l .inv .1) in
+    let left : 0 < length (bounds.rest (a .piece .now) (l .at)) = omega (arith, size, c .before .before .before .before .before .before .before .before .before .before .before .loop-test .taken) in
+    let some = within.takes-some (length (l .out)) (a .table .now) (a .cid) (l .stands) (l .kept) (l .after) (bounds.rest (a .piece .now) (l .at)) (piece .result) (piece .ensures .0) enough left in
+    omega arith
+
+loop-again : tie.Need-loop-again Inv-loop μ-loop
+loop-again c =
+    let a = c .before .before .before .before .before .before .before .before .before .before .before .before .before .before .before .args in
+    let l = c .before .before .before .before .before .before .before .before .before .before .before .before .loop in
+    let piece = c .before .before .before .before .before .before .before .follow-piece in
+    let size = bounds.rest-size (a .piece .now) (l .at) in
+    let takes = within.takes-within (length (l .out)) (a .table .now) (a .cid) (l .stands) (l .kept) (l .after) (bounds.rest (a .piece .now) (l .at)) (piece .result) (piece .ensures .0) in
+    (omega arith, omega (arith, l .inv .1))
+
 same-length-2 : tie.Need-same-length-2 Inv-loop μ-loop
 same-length-2 c = search needs
 
 returns-2 : tie.Need-returns-2 Inv-loop μ-loop
 returns-2 c = search needs
-
-add-at : tie.Need-add-at Inv-loop μ-loop
-add-at c =
-    let l = c .before .before .before .before .before .before .before .before .before .before .before .before .before .before .loop in
-    let piece = c .before .before .before .before .before .before .before .before .before .follow-piece in
-    let size = bounds.rest-size (c .before .before .before .before .before .before .before .before .before .before .before .before .before .before .before .before .before .args .piece .now) (l .at) in
-    let takes = within.takes-within (length (l .out)) (c .before .before .before .before .before .before .before .before .before .before .before .before .before .before .before .before .before .args .table .now) (c .before .before .before .before .before .before .before .before .before .before .before .before .before .before .before .before .before .args .cid) (l .stands) (l .kept) (l .after) (bounds.rest (c .before .before .before .before .before .before .before .before .before .before .before .before .before .before .before .before .before .args .piece .now) (l .at)) (piece .result) (piece .ensures .0) in
-    omega (arith, c .before .before .before .before .before .before .before .before .before .before .before .before .before .before .before .before .before .good .0 .0)
-
-loop-less : tie.Need-loop-less Inv-loop μ-loop
-loop-less c =
-    let l = c .before .before .before .before .before .before .before .before .before .before .before .before .before .before .loop in
-    let piece = c .before .before .before .before .before .before .before .before .before .follow-piece in
-    let size = bounds.rest-size (c .before .before .before .before .before .before .before .before .before .before .before .before .before .before .before .before .before .args .piece .now) (l .at) in
-    let takes = within.takes-within (length (l .out)) (c .before .before .before .before .before .before .before .before .before .before .before .before .before .before .before .before .before .args .table .now) (c .before .before .before .before .before .before .before .before .before .before .before .before .before .before .before .before .before .args .cid) (l .stands) (l .kept) (l .after) (bounds.rest (c .before .before .before .before .before .before .before .before .before .before .before .before .before .before .before .before .before .args .piece .now) (l .at)) (piece .result) (piece .ensures .0) in
-    omega arith
-
-loop-again : tie.Need-loop-again Inv-loop μ-loop
-loop-again c =
-    let l = c .before .before .before .before .before .before .before .before .before .before .before .before .before .before .loop in
-    let piece = c .before .before .before .before .before .before .before .before .before .follow-piece in
-    let size = bounds.rest-size (c .before .before .before .before .before .before .before .before .before .before .before .before .before .before .before .before .before .args .piece .now) (l .at) in
-    let takes = within.takes-within (length (l .out)) (c .before .before .before .before .before .before .before .before .before .before .before .before .before .before .before .before .before .args .table .now) (c .before .before .before .before .before .before .before .before .before .before .before .before .before .before .before .before .before .args .cid) (l .stands) (l .kept) (l .after) (bounds.rest (c .before .before .before .before .before .before .before .before .before .before .before .before .before .before .before .before .before .args .piece .now) (l .at)) (piece .result) (piece .ensures .0) in
-    (omega arith, omega (arith, l .inv .1))
-
-same-length-3 : tie.Need-same-length-3 Inv-loop μ-loop
-same-length-3 c = search needs
-
-returns-3 : tie.Need-returns-3 Inv-loop μ-loop
-returns-3 c = search needs
 
 pub follow-all-spec : {M : Type 1} → statement M
 follow-all-spec =
@@ -92,10 +93,8 @@ follow-all-spec =
     print-requires
     same-length
     returns
-    same-length-2
-    returns-2
     add-at
     loop-less
     loop-again
-    same-length-3
-    returns-3)
+    same-length-2
+    returns-2)

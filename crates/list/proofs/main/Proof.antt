@@ -59,10 +59,10 @@ refuse-requires : tie.Need-refuse-requires
 refuse-requires c κs = search needs
 
 array-share-prefix-input-3 : tie.Need-array-share-prefix-input-3
-array-share-prefix-input-3 c = omega (arith, bounds.text-ends _ _ _ (c .before .before .before .before .before .before .before .before .before .before .before .before .read-full .ensures .0) (c .before .before .before .before .before .before .before .before .before .text-end .ensures), c .before .before .before .before .before .before .before .before .before .before .before .before .read-full .ensures .0)
+array-share-prefix-input-3 c = omega (arith, bounds.text-ends _ _ _ (c .before .before .before .before .before .before .before .before .before .before .before .before .before .read-full .ensures .0) (c .before .before .before .before .before .before .before .before .before .before .text-end .ensures), c .before .before .before .before .before .before .before .before .before .before .before .before .before .read-full .ensures .0)
 
 slice-aggregate-say-cr : tie.Need-slice-aggregate-say-cr
-slice-aggregate-say-cr c = sym (length-take-le _ _ (omega (arith, bounds.text-ends _ _ _ (c .before .before .before .before .before .before .before .before .before .before .before .before .before .read-full .ensures .0) (c .before .before .before .before .before .before .before .before .before .before .text-end .ensures), c .before .before .before .before .before .before .before .before .before .before .before .before .before .read-full .ensures .0)))
+slice-aggregate-say-cr c = sym (length-take-le _ _ (omega (arith, bounds.text-ends _ _ _ (c .before .before .before .before .before .before .before .before .before .before .before .before .before .before .read-full .ensures .0) (c .before .before .before .before .before .before .before .before .before .before .before .text-end .ensures), c .before .before .before .before .before .before .before .before .before .before .before .before .before .before .read-full .ensures .0)))
 
 say-cr-requires : tie.Need-say-cr-requires
 say-cr-requires c κs = search needs
@@ -72,6 +72,9 @@ returns c = search needs
 
 returns-2 : tie.Need-returns-2
 returns-2 c = search needs
+
+returns-3 : tie.Need-returns-3
+returns-3 c = search needs
 
 pub main-spec : {M : Type 1} → statement M
 main-spec =
@@ -98,4 +101,5 @@ main-spec =
     slice-aggregate-say-cr
     say-cr-requires
     returns
-    returns-2)
+    returns-2
+    returns-3)
