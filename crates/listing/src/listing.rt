@@ -2,6 +2,7 @@
 use frame::header::SubFrame;
 use octets::Put;
 use printing::field::put_field;
+use printing::field::put_octet_field;
 use printing::refused::put_refused;
 use recording::line::Read;
 ghost use mathlib.Core.Path.{_≡_};
@@ -20,10 +21,10 @@ fn put_four(out: &mut [u8], at: usize, cid: u8, ptype: u8, len: usize, number: u
     requires { ⌜ at + 104 ≤ length (now out) ⌝ }
     ensures { λ r. ⌜ Appended (now (out .entry)) at (fourFields cid ptype len number) 104 (now (out .exit)) r ⌝ }
 {
-    let past_cid = put_field(out, at, b"cid=", cid as u64);
-    let past_type = put_field(out, past_cid, b"type=", ptype as u64);
+    let past_cid = put_octet_field(out, at, b"cid=", cid);
+    let past_type = put_octet_field(out, past_cid, b"type=", ptype);
     let past_len = put_field(out, past_type, b"len=", len as u64);
-    put_field(out, past_len, b"answer=", number as u64)
+    put_octet_field(out, past_len, b"answer=", number)
 }
 
 // A sub-frame of the frame.

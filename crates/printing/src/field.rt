@@ -75,3 +75,25 @@ pub fn put_field(out: &mut [u8], at: usize, key: &[u8], n: u64) -> usize
     }
     append_field(out, at, key, n)
 }
+
+// A field of a number below 10,000.
+fn append_small_field(out: &mut [u8], at: usize, key: &[u8], n: u64) -> usize
+    requires { ⌜ n < 10000 ⌝ }
+    requires { ⌜ at + (length (now key) + 21) ≤ length (now out) ⌝ }
+    ensures { λ r. ⌜ Appended (now (out .entry)) at (field (now (key .entry)) n) (length (now (key .entry)) + 21) (now (out .exit)) r ⌝ }
+{
+    let value = put_text(out, at, key);
+    let end = put_small(out, value, n);
+    put_octet(out, end, LF)
+}
+
+// The same as `put_field`, of a number that an octet holds: small enough for the compiler to put it in place.
+pub fn put_octet_field(out: &mut [u8], at: usize, key: &[u8], n: u8) -> usize
+    ensures answer { λ r. ⌜ r ≡ at + length (fitting (length (now (key .entry)) + 21) (now (out .entry)) at (field (now (key .entry)) n)) ⌝ }
+    ensures holds { λ r. ⌜ now (out .exit) ≡ written (now (out .entry)) at (fitting (length (now (key .entry)) + 21) (now (out .entry)) at (field (now (key .entry)) n)) ⌝ }
+{
+    if octets::exceeds(out.len(), at, key.len() + 21) {
+        return at;
+    }
+    append_small_field(out, at, key, n as u64)
+}

@@ -1,5 +1,4 @@
 -- `following::following::put_sub` meets its contract: of another sub-channel nothing; else what the trunk tells.
-use native.Mathlib.Omega.{arith}
 use Rattle.following.proofs.Turns as turns
 use borrow.Author.Needs.{needs}
 use Rattle.following.proofs.following.put_sub.Statement.{statement}

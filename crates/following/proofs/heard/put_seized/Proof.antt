@@ -1,5 +1,4 @@
 -- `following::heard::put_seized` meets its contract: the counts, the periods that are carried, value and alarm.
-use mathlib.Core.Path.{_≡_}
 use native.Mathlib.Omega.{arith}
 use Rattle.octets.specs.Text.{ascii}
 use Rattle.printing.proofs.Appending as appending

@@ -7,29 +7,29 @@ use Rattle.listing.specs.Listing.{fourFields}
 use Rattle.listing.proofs.listing.put_four.Statement.{statement}
 use Rattle.listing.proofs.listing.put_four.Tie as tie
 
+slice-aggregate-put-octet-field : tie.Need-slice-aggregate-put-octet-field
+slice-aggregate-put-octet-field c = search needs
+
+put-octet-field-requires : tie.Need-put-octet-field-requires
+put-octet-field-requires c κs = search needs
+
+slice-aggregate-put-octet-field-2 : tie.Need-slice-aggregate-put-octet-field-2
+slice-aggregate-put-octet-field-2 c = search needs
+
+put-octet-field-requires-2 : tie.Need-put-octet-field-requires-2
+put-octet-field-requires-2 c κs = search needs
+
 slice-aggregate-put-field : tie.Need-slice-aggregate-put-field
 slice-aggregate-put-field c = search needs
 
 put-field-requires : tie.Need-put-field-requires
 put-field-requires c κs = search needs
 
-slice-aggregate-put-field-2 : tie.Need-slice-aggregate-put-field-2
-slice-aggregate-put-field-2 c = search needs
+slice-aggregate-put-octet-field-3 : tie.Need-slice-aggregate-put-octet-field-3
+slice-aggregate-put-octet-field-3 c = search needs
 
-put-field-requires-2 : tie.Need-put-field-requires-2
-put-field-requires-2 c κs = search needs
-
-slice-aggregate-put-field-3 : tie.Need-slice-aggregate-put-field-3
-slice-aggregate-put-field-3 c = search needs
-
-put-field-requires-3 : tie.Need-put-field-requires-3
-put-field-requires-3 c κs = search needs
-
-slice-aggregate-put-field-4 : tie.Need-slice-aggregate-put-field-4
-slice-aggregate-put-field-4 c = search needs
-
-put-field-requires-4 : tie.Need-put-field-requires-4
-put-field-requires-4 c κs = search needs
+put-octet-field-requires-3 : tie.Need-put-octet-field-requires-3
+put-octet-field-requires-3 c κs = search needs
 
 same-length : tie.Need-same-length
 same-length c = search needs
@@ -39,22 +39,22 @@ unfolding fourFields
 returns c =
     let start = c .before .before .before .before .before .before .before .before .before .before .before .before .before .before .before .before .before .before .before .before .before in
     let room = start .pre in
-    let one = appending.then-field (appending.none (start .args .out .now) (start .args .at)) (ascii "cid=") (start .args .cid) (omega (arith, room)) (c .before .before .before .before .before .before .before .before .before .before .before .before .before .before .before .before .before .put-field .ensures) in
-    let two = appending.then-field one (ascii "type=") (start .args .ptype) (omega (arith, room)) (c .before .before .before .before .before .before .before .before .before .before .before .before .put-field2 .ensures) in
-    let three = appending.then-field two (ascii "len=") (start .args .len) (omega (arith, room)) (c .before .before .before .before .before .before .before .put-field3 .ensures) in
-    appending.then-field three (ascii "answer=") (start .args .number) (omega (arith, room)) (c .before .before .put-field4 .ensures)
+    let one = appending.then-field (appending.none (start .args .out .now) (start .args .at)) (ascii "cid=") (start .args .cid) (omega (arith, room)) (c .before .before .before .before .before .before .before .before .before .before .before .before .before .before .before .before .before .put-octet-field .ensures) in
+    let two = appending.then-field one (ascii "type=") (start .args .ptype) (omega (arith, room)) (c .before .before .before .before .before .before .before .before .before .before .before .before .put-octet-field2 .ensures) in
+    let three = appending.then-field two (ascii "len=") (start .args .len) (omega (arith, room)) (c .before .before .before .before .before .before .before .put-field .ensures) in
+    appending.then-field three (ascii "answer=") (start .args .number) (omega (arith, room)) (c .before .before .put-octet-field3 .ensures)
 
 pub put-four-spec : {M : Type 1} → statement M
 put-four-spec =
     tie.close
     (tie.spec
+    slice-aggregate-put-octet-field
+    put-octet-field-requires
+    slice-aggregate-put-octet-field-2
+    put-octet-field-requires-2
     slice-aggregate-put-field
     put-field-requires
-    slice-aggregate-put-field-2
-    put-field-requires-2
-    slice-aggregate-put-field-3
-    put-field-requires-3
-    slice-aggregate-put-field-4
-    put-field-requires-4
+    slice-aggregate-put-octet-field-3
+    put-octet-field-requires-3
     same-length
     returns)

@@ -1,5 +1,5 @@
 -- `printing::field::put_field` meets its contract: the field where the room is there.
-use Prim.Native.Nat.{_+_, _*_}
+use Prim.Native.Nat.{_+_}
 use lib.ListN.{length}
 use borrow.Author.Needs.{needs}
 use Rattle.printing.specs.Field.{field}

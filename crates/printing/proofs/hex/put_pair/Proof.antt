@@ -1,5 +1,5 @@
 -- `printing::hex::put_pair` meets its contract: the higher digit, then the lower.
-use mathlib.Core.Path.{_∙_, sym}
+use mathlib.Core.Path.{sym}
 use native.Mathlib.Omega.{arith}
 use borrow.Author.Needs.{needs}
 use Rattle.printing.proofs.Appending as appending
