@@ -10,7 +10,7 @@ import subprocess
 import sys
 
 # A function that calls itself, and how deep: four digits a call, of the 20 that a number of 64 bits has.
-DEPTHS = {"listing::field::put_number": 5}
+DEPTHS = {"printing::field::put_number": 5}
 
 
 def sections(data):
