@@ -39,5 +39,5 @@ pub record Leaves : Type 0 where
   pub signalling : (t : Trunk) (found : Found) (ptype : ℕ) (p : List ℕ) → layoutOf found ptype ≡ OfSignalling → taken t found ptype p .trunk ≡ record { digits = t .digits; signalling = seizing.received (t .signalling) p .receiver }
   -- accepted voice leaves the signalling receiver, and of the digit receiver all but the tone: that is then off
   pub voice : (t : Trunk) (found : Found) (ptype : ℕ) (p : List ℕ) (r : Record) → layoutOf found ptype ≡ OfVoice r → taken t found ptype p .number ≡ sound → taken t found ptype p .trunk ≡ record { digits = record { heard = t .digits .heard; last = t .digits .last; on = false; code = 0 }; signalling = t .signalling }
-  -- where no tone sounds, voice leaves the whole trunk
+  -- where no tone sounds and its code is 0, as every payload leaves it, voice leaves the whole trunk
   pub voice-untoned : (t : Trunk) (found : Found) (ptype : ℕ) (p : List ℕ) (r : Record) → layoutOf found ptype ≡ OfVoice r → t .digits .on ≡ false → t .digits .code ≡ 0 → taken t found ptype p .trunk ≡ t
