@@ -1,11 +1,11 @@
 -- The bench examples hold, by computing.
 use mathlib.Core.Path.{refl}
-use Rattle.frame.specs.Header.{told, headerAt}
+use Rattle.header.specs.Header.{told, headerAt}
 use Rattle.frame.specs.Opening.{scan, scanned, opening}
-use Rattle.frame.specs.Joining.{shortestHeader, joined}
+use Rattle.joining.specs.Joining.{shortestHeader, joined}
 use Rattle.digits.specs.Layout.{digitsMade}
 use Rattle.signalling.specs.Layout.{halves, signallingRead}
-use Rattle.seizing.specs.Receiver.{received}
+use Rattle.seized.specs.Receiver.{received}
 use Rattle.data.specs.Data.{dataMade}
 use Rattle.fax.specs.Fax.{frontOf, bodySized, toneRefused, faxMade}
 use Rattle.bench.specs.Examples.{Hold, examples}

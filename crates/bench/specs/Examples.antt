@@ -8,12 +8,12 @@ use lib.ListN.{replicate}
 use lib.IntN.{ℤ, pos, negsuc}
 use Rattle.octets.specs.Made.{Made, made, unmade}
 use Rattle.frame.specs.Opening.{opening}
-use Rattle.frame.specs.Joining.{Member, shortestHeader, joined}
+use Rattle.joining.specs.Joining.{Member, shortestHeader, joined}
 use Rattle.framing.specs.Claims.{list}
 use Rattle.digits.specs.declared.layout.Digits.{Digits}
 use Rattle.digits.specs.Layout.{digitsMade}
-use Rattle.seizing.specs.declared.receiver.Received.{Received}
-use Rattle.seizing.specs.Receiver.{freshReceiver, received}
+use Rattle.seized.specs.declared.Received.{Received}
+use Rattle.seized.specs.Receiver.{freshReceiver, received}
 use Rattle.data.specs.Data.{dataMade}
 use Rattle.fax.specs.declared.Stamp.the-variants.{Stamped}
 use Rattle.fax.specs.declared.Command.the-variants.{On}

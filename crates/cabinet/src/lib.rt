@@ -8,5 +8,5 @@ ghost use Rattle.frame.specs.Opening.{opening};
 pub extern "C" fn cendraviu_frame_check(frame: &[u8]) -> u8
     ensures { λ r. ⌜ r ≡ opening (now (frame .entry)) .number ⌝ }
 {
-    frame::opening::check(frame).number
+    frame::check(frame).number
 }

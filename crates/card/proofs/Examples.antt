@@ -7,7 +7,7 @@ use lib.ListN.{replicate}
 use Rattle.record.specs.declared.syntax.Syntax.{Syntax}
 use Rattle.record.specs.declared.syntax.Syntax.the-variants.{Acelp, Pcm, Data, Fax}
 use Rattle.record.specs.Record.{syntaxAt, packed, meaning, foundAt}
-use Rattle.frame.specs.Header.{told, headerAt}
+use Rattle.header.specs.Header.{told, headerAt}
 use Rattle.frame.specs.Opening.{scan, scanned, opening}
 use Rattle.voice.specs.Voice.{blockOctets, bodyOctets, frontOf, voiceRead}
 use Rattle.payload.specs.Layout.{onVoice, onFax, onData}

@@ -13,17 +13,17 @@ use Rattle.refusal.specs.Order.{inOrder}
 use Rattle.octets.proofs.Order.{eq-or-ne}
 use Rattle.octets.proofs.Texts.{true-not-false}
 use Rattle.counts.specs.declared.VoiceCount.{VoiceCount}
-use Rattle.frame.specs.declared.header.SubFrame.{SubFrame}
-use Rattle.frame.specs.declared.header.Header.{Header}
-use Rattle.frame.specs.declared.header.Header.the-variants.{Sub, Bad, Past}
-use Rattle.frame.specs.declared.opening.Checked.{Checked}
-use Rattle.frame.specs.Header.{headerAt}
-use Rattle.frame.specs.Opening.{mostSubFrames, Opening, stopped, before, endOf, endOfHeader, fieldFits, onwards, scan, scanned, opening, checked}
-use Rattle.frame.proofs.HeaderCases.{refused-numbered}
-use Rattle.frame.proofs.HeaderInverse.{ends-within}
+use Rattle.header.specs.declared.SubFrame.{SubFrame}
+use Rattle.header.specs.declared.Header.{Header}
+use Rattle.header.specs.declared.Header.the-variants.{Sub, Bad, Past}
+use Rattle.frame.specs.declared.Checked.{Checked}
+use Rattle.header.specs.Header.{headerAt, endOf}
+use Rattle.frame.specs.Opening.{mostSubFrames, Opening, stopped, before, endOfHeader, fieldFits, onwards, scan, scanned, opening, checked}
+use Rattle.header.proofs.HeaderCases.{refused-numbered}
+use Rattle.header.proofs.HeaderInverse.{ends-within}
 use Rattle.frame.proofs.OpeningTurns.{Ahead, opens-ahead, sound-is, refused-is, number-is, fits-scans, unfit-number}
-use Rattle.voice.specs.declared.voice.VoiceRead.{VoiceRead}
-use Rattle.voice.specs.declared.voice.VoiceRead.the-variants.{Voice, BadVoice}
+use Rattle.voice.specs.declared.VoiceRead.{VoiceRead}
+use Rattle.voice.specs.declared.VoiceRead.the-variants.{Voice, BadVoice}
 use Rattle.voice.specs.Voice.{readRefusals, voiceRead}
 use Rattle.refusal.proofs.Order.{by-number}
 use Rattle.record.specs.declared.syntax.Record.{Record}

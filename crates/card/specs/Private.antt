@@ -4,7 +4,7 @@ use mathlib.Core.List.{List}
 use mathlib.Core.Bool.{cond}
 use lib.Dec.{eqb}
 use Rattle.refusal.specs.Numbers.{sound}
-use Rattle.frame.specs.declared.header.SubFrame.{SubFrame}
+use Rattle.header.specs.declared.SubFrame.{SubFrame}
 use Rattle.frame.specs.Opening.{Opening}
 use Rattle.record.specs.declared.table.Found.{Found}
 use Rattle.card.specs.declared.handing.Handed.{Handed}

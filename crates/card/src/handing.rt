@@ -1,17 +1,18 @@
 // What the voice card is handed for a call (document 01, "Frame and sub-frame", its last paragraph).
-use frame::header::Header;
-use frame::header::SubFrame;
+use header::Header;
+use header::SubFrame;
 use payload::layout::Family;
 use record::syntax::Record;
 use record::table::Found;
-use voice::voice::VoiceRead;
+use voice::VoiceRead;
 ghost use mathlib.Core.Path.{_≡_};
 ghost use mathlib.Core.Bool.{cond};
 ghost use Prim.Native.Nat.{_-_, _≤_};
 ghost use lib.ListN.{length};
 ghost use denote.Ref.{ptr};
 ghost use Rattle.refusal.specs.Numbers.{sound};
-ghost use Rattle.frame.specs.Opening.{mostSubFrames, endOf, stopped, scan, opening};
+ghost use Rattle.header.specs.Header.{endOf};
+ghost use Rattle.frame.specs.Opening.{mostSubFrames, stopped, scan, opening};
 ghost use Rattle.record.specs.declared.table.Found.the-variants.{Provisioned};
 ghost use Rattle.payload.specs.declared.layout.Family.the-variants.{VoiceFamily};
 ghost use Rattle.payload.specs.Layout.{familyOf};
@@ -45,7 +46,7 @@ fn serves(frame: &[u8], rec: Record, cid: u8, sub: SubFrame) -> bool
     }
     let start = sub.start;
     let end = start + sub.len;
-    match voice::voice::read_voice(rec, &frame[start..end]) {
+    match voice::read_voice(rec, &frame[start..end]) {
         VoiceRead::Voice { .. } => true,
         VoiceRead::BadVoice(_) => false,
     }
@@ -61,7 +62,7 @@ fn behind(frame: &[u8], sub: SubFrame, begun: usize) -> Handed
     if sub.last {
         return Handed::FromFrame { start, len };
     }
-    let rest = frame::opening::scan_from(frame, start + len, begun);
+    let rest = frame::scan_from(frame, start + len, begun);
     if rest.number == refusal::SOUND {
         return Handed::FromFrame { start, len };
     }
@@ -75,8 +76,8 @@ fn first_of(frame: &[u8], rec: Record, cid: u8) -> Handed
 {
     let mut at: usize = 0;
     let mut begun: usize = 0;
-    while begun < frame::opening::MOST_SUB_FRAMES {
-        match frame::header::header_at(frame, at) {
+    while begun < frame::MOST_SUB_FRAMES {
+        match header::header_at(frame, at) {
             Header::Sub(sub) => {
                 begun += 1;
                 if serves(frame, rec, cid, sub) {
@@ -103,10 +104,10 @@ fn on_voice(frame: &[u8], rec: Record, cid: u8) -> Handed
     requires { ⌜ familyOf (rec .syntax) ≡ VoiceFamily ⌝ }
     ensures { λ r. ⌜ r ≡ firstIn (Provisioned rec) cid (now (frame .entry)) (opening (now (frame .entry))) ⌝ }
 {
-    if frame::opening::field_fits(frame) {
+    if frame::field_fits(frame) {
         return first_of(frame, rec, cid);
     }
-    let checked = frame::opening::check(frame);
+    let checked = frame::check(frame);
     Handed::NotHanded(checked.number)
 }
 
@@ -114,7 +115,7 @@ fn on_voice(frame: &[u8], rec: Record, cid: u8) -> Handed
 fn refused(frame: &[u8], number: u8) -> Handed
     ensures { λ r. ⌜ r ≡ ownFirst (opening (now (frame .entry))) (NotHanded number) ⌝ }
 {
-    let checked = frame::opening::check(frame);
+    let checked = frame::check(frame);
     if checked.number == refusal::SOUND {
         return Handed::NotHanded(number);
     }

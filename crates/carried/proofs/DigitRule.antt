@@ -13,11 +13,11 @@ use Rattle.digits.specs.declared.layout.Window.{Window}
 use Rattle.digits.specs.declared.layout.Digits.{Digits}
 use Rattle.digits.specs.declared.layout.DigitsRead.{DigitsRead}
 use Rattle.digits.specs.declared.layout.DigitsRead.the-variants.{Dialled, BadDigits}
-use Rattle.dialling.specs.declared.receiver.Receiver.{Receiver}
-use Rattle.dialling.specs.declared.receiver.Received.{Received}
+use Rattle.dialled.specs.declared.Receiver.{Receiver}
+use Rattle.dialled.specs.declared.Received.{Received}
 use Rattle.digits.specs.Layout.{offWindow, digitsRead}
-use Rattle.dialling.specs.Receiver.{stepFrom, fillOf, receiverAfter, appended}
-use Rattle.dialling.proofs.ReceiverCases.{received-by}
+use Rattle.dialled.specs.Receiver.{stepFrom, fillOf, receiverAfter, appended}
+use Rattle.dialled.proofs.ReceiverCases.{received-by}
 use Rattle.replay.specs.Rule.{fillCount}
 use Rattle.replay.specs.Periods.{Payload, Mark, filled, carried}
 use Rattle.replay.specs.Claims as replays

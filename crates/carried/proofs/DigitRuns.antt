@@ -6,10 +6,10 @@ use native.Mathlib.Omega.{arith}
 use mathlib.Core.Option.{some}
 use lib.ListN.{replicate}
 use Rattle.digits.specs.declared.layout.Window.{Window}
-use Rattle.dialling.specs.declared.sender.Sender.{Sender}
+use Rattle.dialling.specs.declared.Sender.{Sender}
 use Rattle.dialling.specs.Sender.{freshSender, windowIn, afterSent, sending}
 use Rattle.dialling.specs.SenderClaims.{senderAfter}
-use Rattle.dialling.specs.Receiver.{freshReceiver}
+use Rattle.dialled.specs.Receiver.{freshReceiver}
 use Rattle.replay.specs.Periods.{pay, range, Near, Sublist}
 use Rattle.replay.specs.Claims.{Replays}
 use Rattle.replay.specs.Examples.{picked}

@@ -11,11 +11,11 @@ use Rattle.octets.specs.Made.{Made}
 use Rattle.octets.proofs.Order.{either}
 use Rattle.counts.proofs.Laws.{laws}
 use Rattle.digits.specs.declared.layout.Window.{Window}
-use Rattle.dialling.specs.declared.sender.Entry.{Entry}
-use Rattle.dialling.specs.declared.sender.Sender.{Sender}
-use Rattle.dialling.specs.declared.sender.Sending.{Sending}
-use Rattle.dialling.specs.declared.sender.Sending.the-variants.{BadEntry, Unsent, Sent}
-use Rattle.dialling.specs.declared.sender.Taken.{Taken}
+use Rattle.dialling.specs.declared.Entry.{Entry}
+use Rattle.dialling.specs.declared.Sender.{Sender}
+use Rattle.dialling.specs.declared.Sending.{Sending}
+use Rattle.dialling.specs.declared.Sending.the-variants.{BadEntry, Unsent, Sent}
+use Rattle.dialling.specs.declared.Taken.{Taken}
 use Rattle.digits.specs.Layout.{offWindow, digitsRead, digitsMade}
 use Rattle.dialling.specs.Sender.{freshSender, windowIn, due, payloadOf, afterSent, afterUnsent, sending}
 use Rattle.dialling.specs.SenderClaims.{Proper, ReadsBack}

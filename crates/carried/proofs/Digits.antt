@@ -6,7 +6,7 @@ use mathlib.Core.Option.{Option}
 use native.Mathlib.Omega.{arith}
 use Rattle.digits.specs.declared.layout.Window.{Window}
 use Rattle.dialling.specs.Sender.{freshSender}
-use Rattle.dialling.specs.Receiver.{freshReceiver}
+use Rattle.dialled.specs.Receiver.{freshReceiver}
 use Rattle.replay.specs.Periods.{Payload, pay}
 use Rattle.replay.specs.Claims.{broughtBy, joinedTo}
 use Rattle.replay.proofs.Sublists.{Each, each-some, sublist-map, rising-some, sublist-among}

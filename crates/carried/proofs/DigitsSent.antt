@@ -10,9 +10,9 @@ use Rattle.refusal.specs.Order.{_or_}
 use Rattle.octets.proofs.Order.{either}
 use Rattle.levels.specs.Level.{codeOf}
 use Rattle.digits.specs.Layout.{windowWrong, levelLow}
-use Rattle.dialling.specs.declared.sender.Entry.{Entry}
-use Rattle.dialling.specs.declared.sender.Sender.{Sender}
-use Rattle.dialling.specs.declared.sender.Taken.{Taken}
+use Rattle.dialling.specs.declared.Entry.{Entry}
+use Rattle.dialling.specs.declared.Sender.{Sender}
+use Rattle.dialling.specs.declared.Taken.{Taken}
 use Rattle.dialling.specs.Sender.{freshSender, windowIn, changes, strayEdge, loud, due, period, sending}
 use Rattle.dialling.specs.SenderClaims.{answers, loudOf, loudPeriods, nearLoud}
 use Rattle.dialling.proofs.SentExactly.{sent-exactly}

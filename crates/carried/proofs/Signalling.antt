@@ -5,7 +5,7 @@ use mathlib.Core.List.{List, [], _∷_, map}
 use mathlib.Core.Option.{Option}
 use native.Mathlib.Omega.{arith}
 use Rattle.seizing.specs.Sender.{started}
-use Rattle.seizing.specs.Receiver.{freshReceiver}
+use Rattle.seized.specs.Receiver.{freshReceiver}
 use Rattle.replay.specs.Periods.{Payload, pay}
 use Rattle.replay.specs.Claims.{broughtBy, joinedTo}
 use Rattle.replay.proofs.Sublists.{Each, each-some, sublist-map, rising-some}

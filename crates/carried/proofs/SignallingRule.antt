@@ -13,11 +13,11 @@ use Rattle.octets.proofs.Order.{eq-or-ne}
 use Rattle.counts.specs.Round.{step}
 use Rattle.signalling.specs.declared.layout.Signalling.{Signalling}
 use Rattle.signalling.specs.declared.layout.SignallingRead.{SignallingRead}
-use Rattle.seizing.specs.declared.receiver.Receiver.{Receiver}
-use Rattle.seizing.specs.declared.receiver.Received.{Received}
+use Rattle.seized.specs.declared.Receiver.{Receiver}
+use Rattle.seized.specs.declared.Received.{Received}
 use Rattle.signalling.specs.Layout.{halves, nothing, signallingRead}
-use Rattle.seizing.specs.Receiver.{stepFrom, fillOf, periodsOf, appended, received}
-use Rattle.seizing.proofs.ReceiverCases.{received-by}
+use Rattle.seized.specs.Receiver.{stepFrom, fillOf, periodsOf, appended, received}
+use Rattle.seized.proofs.ReceiverCases.{received-by}
 use Rattle.signalling.proofs.Halves.{length-halves}
 use Rattle.replay.specs.Rule.{fillCount, carriedCount, newest}
 use Rattle.replay.specs.Periods.{Payload, Mark, filled, carried}

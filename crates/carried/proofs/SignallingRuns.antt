@@ -10,13 +10,13 @@ use lib.Dec.{eqb}
 use lib.ListN.{length, replicate}
 use Rattle.refusal.specs.Numbers.{sound}
 use Rattle.octets.proofs.Order.{either}
-use Rattle.seizing.specs.declared.sender.Entry.{Entry}
-use Rattle.seizing.specs.declared.sender.Sender.{Sender}
-use Rattle.seizing.specs.declared.sender.Sent.{Sent}
+use Rattle.seizing.specs.declared.Entry.{Entry}
+use Rattle.seizing.specs.declared.Sender.{Sender}
+use Rattle.seizing.specs.declared.Sent.{Sent}
 use Rattle.signalling.specs.Layout.{allAllowed}
 use Rattle.seizing.specs.Sender.{started, allEqual, isQuiet, runAfter, afterSent, afterUnsent, goingOut, nothingDue}
 use Rattle.seizing.specs.Sender as defined
-use Rattle.seizing.specs.Receiver.{freshReceiver}
+use Rattle.seized.specs.Receiver.{freshReceiver}
 use Rattle.replay.specs.Periods.{pay, range, Near, Among}
 use Rattle.replay.specs.Claims.{Replays}
 use Rattle.replay.specs.Examples.{picked}

@@ -16,9 +16,9 @@ use Rattle.octets.specs.Made.{Made}
 use Rattle.octets.proofs.Order.{lt-or-le, either}
 use Rattle.counts.specs.Round.{onward}
 use Rattle.counts.proofs.Laws.{laws}
-use Rattle.seizing.specs.declared.sender.Entry.{Entry}
-use Rattle.seizing.specs.declared.sender.Sender.{Sender}
-use Rattle.seizing.specs.declared.sender.Sent.{Sent}
+use Rattle.seizing.specs.declared.Entry.{Entry}
+use Rattle.seizing.specs.declared.Sender.{Sender}
+use Rattle.seizing.specs.declared.Sent.{Sent}
 use Rattle.signalling.specs.Layout.{allowed, allAllowed, signallingRead, signallingMade}
 use Rattle.seizing.specs.Sender.{senderFrom, started, isQuiet, windowsAfter, afterSent, afterUnsent, payloadOf, goingOut, nothingDue, period, sent}
 use Rattle.seizing.specs.Claims.{Proper}

@@ -5,7 +5,7 @@ use mathlib.Core.List.{List, [], _∷_, _++_, append-nil, append-assoc}
 use native.Mathlib.Omega.{arith}
 use lib.ListN.{length, take, drop, replicate, length-append, length-take, length-drop, take-append-drop}
 use lib.Seq.{take-at, drop-at, take-all}
-use Rattle.seizing.specs.Receiver.{periodsOf}
+use Rattle.seized.specs.Receiver.{periodsOf}
 use Rattle.replay.specs.Rule.{carriedCount, newest}
 use Rattle.replay.proofs.Replay.{three}
 use Rattle.replay.proofs.Steps.{by-step}

@@ -8,7 +8,7 @@ use Rattle.refusal.specs.Numbers.{lengthWrong}
 use Rattle.octets.proofs.Texts.{true-not-false}
 use Rattle.voice.specs.Voice.{voiceRead, bodyOctets, blockOctets}
 use Rattle.voice.specs.Voice as voice
-use Rattle.voice.specs.Sid.{sidRead}
+use Rattle.sid.specs.Sid.{sidRead}
 use Rattle.fax.specs.Fax.{faxRead, bodySized, commandOf}
 use Rattle.fax.specs.Fax as fax
 use Rattle.digits.specs.declared.layout.Digits.{Digits}

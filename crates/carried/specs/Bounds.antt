@@ -5,10 +5,10 @@ use mathlib.Core.Path.{_≡_}
 use mathlib.Core.Bool.{true, false}
 use Rattle.counts.specs.declared.DigitCount.{DigitCount}
 use Rattle.counts.specs.declared.SignallingCount.{SignallingCount}
-use Rattle.dialling.specs.declared.receiver.Receiver as digits
-use Rattle.dialling.specs.Receiver as by-digits
-use Rattle.seizing.specs.declared.receiver.Receiver as signalling
-use Rattle.seizing.specs.Receiver as by-signalling
+use Rattle.dialled.specs.declared.Receiver as digits
+use Rattle.dialled.specs.Receiver as by-digits
+use Rattle.seized.specs.declared.Receiver as signalling
+use Rattle.seized.specs.Receiver as by-signalling
 
 pub record Farthest : Type 0 where
   pub digits-within : (r : digits.Receiver) (new : DigitCount) → r .heard ≡ true → by-digits.stepFrom r new ≤ by-digits.farthest

@@ -4,9 +4,9 @@ use mathlib.Core.List.{List, [], _∷_, map}
 use mathlib.Core.Bool.{true, false}
 use lib.ListN.{replicate}
 use lib.IntN.{negsuc}
-use Rattle.dialling.specs.declared.sender.Entry.{Entry}
+use Rattle.dialling.specs.declared.Entry.{Entry}
 use Rattle.dialling.specs.Sender.{freshSender}
-use Rattle.dialling.specs.Receiver.{freshReceiver}
+use Rattle.dialled.specs.Receiver.{freshReceiver}
 use Rattle.replay.specs.Periods.{Sublist}
 use Rattle.replay.specs.Claims.{Replays}
 use Rattle.replay.specs.Examples.{picked}

@@ -1,22 +1,22 @@
 -- Demand 3 for digits: what two fresh receivers have in their records when payloads of one sender arrive, through the octets
 -- of the payloads. Proved in proofs/Digits.antt, by the replay theorem.
 --
--- It holds of the code by the contracts, as Tied.antt says: `sending` is what `dialling::sender::send` answers, `digitsMade` is
--- what `digits::layout::put_digits` writes, `received` is what `dialling::receiver::receive` answers, `voiceHeard` is what
--- `dialling::receiver::hear_voice` returns, and `freshSender` and `freshReceiver` are what the two `fresh` return.
+-- It holds of the code by the contracts, as Tied.antt says: `sending` is what `dialling::send` answers, `digitsMade` is
+-- what `digits::layout::put_digits` writes, `received` is what `dialled::receive` answers, `voiceHeard` is what
+-- `dialled::hear_voice` returns, and `freshSender` and `freshReceiver` are what the two `fresh` return.
 use Prim.Native.Nat.{ℕ, suc}
 use mathlib.Core.List.{List, [], _∷_, _++_, map}
 use lib.ListN.{getD, take, replicate}
 use Rattle.digits.specs.declared.layout.Window.{Window}
-use Rattle.dialling.specs.declared.sender.Entry.{Entry}
-use Rattle.dialling.specs.declared.sender.Sender.{Sender}
-use Rattle.dialling.specs.declared.sender.Sending.{Sending}
-use Rattle.dialling.specs.declared.sender.Sending.the-variants.{BadEntry, Unsent, Sent}
-use Rattle.dialling.specs.declared.receiver.Receiver.{Receiver}
-use Rattle.dialling.specs.declared.receiver.Received.{Received}
+use Rattle.dialling.specs.declared.Entry.{Entry}
+use Rattle.dialling.specs.declared.Sender.{Sender}
+use Rattle.dialling.specs.declared.Sending.{Sending}
+use Rattle.dialling.specs.declared.Sending.the-variants.{BadEntry, Unsent, Sent}
+use Rattle.dialled.specs.declared.Receiver.{Receiver}
+use Rattle.dialled.specs.declared.Received.{Received}
 use Rattle.digits.specs.Layout.{offWindow, digitsMade}
 use Rattle.dialling.specs.Sender.{freshSender, windowIn, sending}
-use Rattle.dialling.specs.Receiver.{freshReceiver, farthest, received, voiceHeard}
+use Rattle.dialled.specs.Receiver.{freshReceiver, farthest, received, voiceHeard}
 use Rattle.replay.specs.Periods.{Mark, filled, carried, Near, Sublist}
 use Rattle.replay.specs.Claims.{BothReplay}
 use Rattle.carried.specs.Emissions.{Emission, octetsOf}

@@ -9,9 +9,9 @@ use lib.Dec.{eqb}
 use Rattle.refusal.specs.Order.{_or_}
 use Rattle.levels.specs.Level.{codeOf}
 use Rattle.digits.specs.Layout.{windowWrong, levelLow}
-use Rattle.dialling.specs.declared.sender.Entry.{Entry}
-use Rattle.dialling.specs.declared.sender.Sending.{Sending}
-use Rattle.dialling.specs.declared.sender.Sending.the-variants.{BadEntry, Unsent, Sent}
+use Rattle.dialling.specs.declared.Entry.{Entry}
+use Rattle.dialling.specs.declared.Sending.{Sending}
+use Rattle.dialling.specs.declared.Sending.the-variants.{BadEntry, Unsent, Sent}
 use Rattle.dialling.specs.Sender.{freshSender, windowIn}
 use Rattle.dialling.specs.SenderClaims.{answers, sentPeriods, nearLoud}
 

@@ -1,9 +1,9 @@
 -- Demand 3 for signalling (seizure bits): what two fresh receivers have in their records when payloads of one sender arrive,
 -- through the octets of the payloads. Proved in proofs/Signalling.antt, by the replay theorem.
 --
--- It holds of the code by the contracts, as Tied.antt says: `started` is what `seizing::sender::start` answers, `sent` is what
--- `seizing::sender::send` answers, `signallingMade` is what `signalling::layout::put_signalling` writes, `received` is what
--- `seizing::receiver::receive` answers, and `freshReceiver` is what `seizing::receiver::fresh` returns.
+-- It holds of the code by the contracts, as Tied.antt says: `started` is what `seizing::start` answers, `sent` is what
+-- `seizing::send` answers, `signallingMade` is what `signalling::layout::put_signalling` writes, `received` is what
+-- `seized::receive` answers, and `freshReceiver` is what `seized::fresh` returns.
 use Prim.Native.Nat.{ℕ, suc, _-_}
 use mathlib.Core.Path.{_≡_}
 use mathlib.Core.List.{List, [], _∷_, _++_, map}
@@ -11,14 +11,14 @@ use mathlib.Core.Bool.{Bool, cond}
 use lib.Dec.{eqb}
 use lib.ListN.{length, getD, take, drop, replicate}
 use Rattle.refusal.specs.Numbers.{sound}
-use Rattle.seizing.specs.declared.sender.Entry.{Entry}
-use Rattle.seizing.specs.declared.sender.Sender.{Sender}
-use Rattle.seizing.specs.declared.sender.Sent.{Sent}
-use Rattle.seizing.specs.declared.receiver.Receiver.{Receiver}
-use Rattle.seizing.specs.declared.receiver.Received.{Received}
+use Rattle.seizing.specs.declared.Entry.{Entry}
+use Rattle.seizing.specs.declared.Sender.{Sender}
+use Rattle.seizing.specs.declared.Sent.{Sent}
+use Rattle.seized.specs.declared.Receiver.{Receiver}
+use Rattle.seized.specs.declared.Received.{Received}
 use Rattle.signalling.specs.Layout.{signallingMade}
 use Rattle.seizing.specs.Sender.{started, sent}
-use Rattle.seizing.specs.Receiver.{freshReceiver, farthest, received}
+use Rattle.seized.specs.Receiver.{freshReceiver, farthest, received}
 use Rattle.replay.specs.Periods.{Mark, filled, carried, Near, Among, Sublist}
 use Rattle.replay.specs.Claims.{BothReplay}
 use Rattle.carried.specs.Emissions.{Emission, octetsOf}

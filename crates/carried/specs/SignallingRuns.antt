@@ -4,9 +4,9 @@ use mathlib.Core.Path.{_≡_}
 use mathlib.Core.List.{List, [], _∷_, _++_}
 use mathlib.Core.Bool.{true, false}
 use lib.ListN.{replicate}
-use Rattle.seizing.specs.declared.sender.Entry.{Entry}
+use Rattle.seizing.specs.declared.Entry.{Entry}
 use Rattle.seizing.specs.Sender.{started}
-use Rattle.seizing.specs.Receiver.{freshReceiver}
+use Rattle.seized.specs.Receiver.{freshReceiver}
 use Rattle.replay.specs.Periods.{Sublist}
 use Rattle.replay.specs.Claims.{Replays}
 use Rattle.replay.specs.Examples.{picked}

@@ -17,26 +17,26 @@ use Rattle.record.specs.declared.table.Found.{Found}
 use Rattle.digits.specs.declared.layout.Window.{Window}
 use Rattle.digits.specs.declared.layout.Digits as digits-layout
 use Rattle.signalling.specs.declared.layout.Signalling as signalling-layout
-use Rattle.dialling.specs.declared.sender.Entry as digit-entry
-use Rattle.dialling.specs.declared.sender.Sender as digit-sender
-use Rattle.dialling.specs.declared.sender.Sending.the-variants.{Sent}
-use Rattle.dialling.specs.declared.sender.Taken as digit-taken
-use Rattle.dialling.specs.declared.receiver.Receiver as digit-receiver
-use Rattle.dialling.specs.declared.receiver.Received as digit-received
-use Rattle.seizing.specs.declared.sender.Entry as signalling-entry
-use Rattle.seizing.specs.declared.sender.Sender as signalling-sender
-use Rattle.seizing.specs.declared.sender.Started as signalling-started
-use Rattle.seizing.specs.declared.sender.Sent as signalling-sent
-use Rattle.seizing.specs.declared.receiver.Receiver as signalling-receiver
-use Rattle.seizing.specs.declared.receiver.Received as signalling-received
+use Rattle.dialling.specs.declared.Entry as digit-entry
+use Rattle.dialling.specs.declared.Sender as digit-sender
+use Rattle.dialling.specs.declared.Sending.the-variants.{Sent}
+use Rattle.dialling.specs.declared.Taken as digit-taken
+use Rattle.dialled.specs.declared.Receiver as digit-receiver
+use Rattle.dialled.specs.declared.Received as digit-received
+use Rattle.seizing.specs.declared.Entry as signalling-entry
+use Rattle.seizing.specs.declared.Sender as signalling-sender
+use Rattle.seizing.specs.declared.Started as signalling-started
+use Rattle.seizing.specs.declared.Sent as signalling-sent
+use Rattle.seized.specs.declared.Receiver as signalling-receiver
+use Rattle.seized.specs.declared.Received as signalling-received
 use Rattle.trunk.specs.declared.Trunk.{Trunk}
 use Rattle.trunk.specs.declared.Told.{Told}
 use Rattle.digits.specs.Layout.{digitsMade}
 use Rattle.signalling.specs.Layout.{signallingMade}
 use Rattle.dialling.specs.Sender.{freshSender, sending}
-use Rattle.dialling.specs.Receiver as dialling
+use Rattle.dialled.specs.Receiver as dialling
 use Rattle.seizing.specs.Sender.{started, sent}
-use Rattle.seizing.specs.Receiver as seizing
+use Rattle.seized.specs.Receiver as seizing
 use Rattle.trunk.specs.Trunk.{freshTrunk, taken}
 use Rattle.replay.specs.Periods.{Mark, Near, Among, Sublist}
 use Rattle.replay.specs.Claims.{BothReplay}
@@ -44,26 +44,26 @@ use Rattle.carried.specs.Emissions.{Emission}
 use Rattle.carried.specs.Digits as digits
 use Rattle.carried.specs.Signalling as signalling
 use Rattle.carried.specs.Trunks.{Coming, came, other, arrivals, dialledMarks, digitRecord, seizedMarks, signallingRecord, DigitsGiven, SignallingGiven}
-use Rattle.dialling.proofs.sender.fresh.Kinds as digit-sender-kinds
-use Rattle.dialling.proofs.sender.fresh.Reads as digit-sender-reads
-use Rattle.dialling.proofs.sender.send.Kinds as digit-send-kinds
-use Rattle.dialling.proofs.sender.send.Reads as digit-send-reads
-use Rattle.dialling.proofs.receiver.fresh.Kinds as digit-receiver-kinds
-use Rattle.dialling.proofs.receiver.fresh.Reads as digit-receiver-reads
-use Rattle.dialling.proofs.receiver.receive.Kinds as digit-receive-kinds
-use Rattle.dialling.proofs.receiver.receive.Reads as digit-receive-reads
-use Rattle.dialling.proofs.receiver.hear_voice.Kinds as hear-voice-kinds
-use Rattle.dialling.proofs.receiver.hear_voice.Reads as hear-voice-reads
+use Rattle.dialling.proofs.fresh.Kinds as digit-sender-kinds
+use Rattle.dialling.proofs.fresh.Reads as digit-sender-reads
+use Rattle.dialling.proofs.send.Kinds as digit-send-kinds
+use Rattle.dialling.proofs.send.Reads as digit-send-reads
+use Rattle.dialled.proofs.fresh.Kinds as digit-receiver-kinds
+use Rattle.dialled.proofs.fresh.Reads as digit-receiver-reads
+use Rattle.dialled.proofs.receive.Kinds as digit-receive-kinds
+use Rattle.dialled.proofs.receive.Reads as digit-receive-reads
+use Rattle.dialled.proofs.hear_voice.Kinds as hear-voice-kinds
+use Rattle.dialled.proofs.hear_voice.Reads as hear-voice-reads
 use Rattle.digits.proofs.layout.put_digits.Kinds as put-digits-kinds
 use Rattle.digits.proofs.layout.put_digits.Reads as put-digits-reads
-use Rattle.seizing.proofs.sender.start.Kinds as start-kinds
-use Rattle.seizing.proofs.sender.start.Reads as start-reads
-use Rattle.seizing.proofs.sender.send.Kinds as signalling-send-kinds
-use Rattle.seizing.proofs.sender.send.Reads as signalling-send-reads
-use Rattle.seizing.proofs.receiver.fresh.Kinds as signalling-receiver-kinds
-use Rattle.seizing.proofs.receiver.fresh.Reads as signalling-receiver-reads
-use Rattle.seizing.proofs.receiver.receive.Kinds as signalling-receive-kinds
-use Rattle.seizing.proofs.receiver.receive.Reads as signalling-receive-reads
+use Rattle.seizing.proofs.start.Kinds as start-kinds
+use Rattle.seizing.proofs.start.Reads as start-reads
+use Rattle.seizing.proofs.send.Kinds as signalling-send-kinds
+use Rattle.seizing.proofs.send.Reads as signalling-send-reads
+use Rattle.seized.proofs.fresh.Kinds as signalling-receiver-kinds
+use Rattle.seized.proofs.fresh.Reads as signalling-receiver-reads
+use Rattle.seized.proofs.receive.Kinds as signalling-receive-kinds
+use Rattle.seized.proofs.receive.Reads as signalling-receive-reads
 use Rattle.signalling.proofs.layout.put_signalling.Kinds as put-signalling-kinds
 use Rattle.signalling.proofs.layout.put_signalling.Reads as put-signalling-reads
 use Rattle.trunk.proofs.fresh.Kinds as trunk-kinds

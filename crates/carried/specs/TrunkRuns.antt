@@ -9,7 +9,7 @@ use Rattle.refusal.specs.Numbers.{typeNotAllowed, lengthWrong}
 use Rattle.record.specs.declared.syntax.Syntax.the-variants.{Acelp}
 use Rattle.record.specs.declared.table.Found.{Found}
 use Rattle.record.specs.declared.table.Found.the-variants.{Provisioned}
-use Rattle.voice.specs.declared.sid.Sid.the-variants.{Plain}
+use Rattle.sid.specs.declared.Sid.the-variants.{Plain}
 use Rattle.fax.specs.declared.Stamp.the-variants.{Stamped}
 use Rattle.fax.specs.declared.Command.the-variants.{Off}
 use Rattle.digits.specs.Layout.{offWindow}

@@ -13,12 +13,12 @@ use Rattle.record.specs.declared.table.Found.{Found}
 use Rattle.digits.specs.declared.layout.Window.{Window}
 use Rattle.digits.specs.declared.layout.Digits.{Digits}
 use Rattle.signalling.specs.declared.layout.Signalling.{Signalling}
-use Rattle.dialling.specs.declared.sender.Entry as dialling-entry
+use Rattle.dialling.specs.declared.Entry as dialling-entry
 use Rattle.dialling.specs.Sender.{freshSender}
-use Rattle.dialling.specs.Receiver as dialling
-use Rattle.seizing.specs.declared.sender.Entry as seizing-entry
+use Rattle.dialled.specs.Receiver as dialling
+use Rattle.seizing.specs.declared.Entry as seizing-entry
 use Rattle.seizing.specs.Sender.{started}
-use Rattle.seizing.specs.Receiver as seizing
+use Rattle.seized.specs.Receiver as seizing
 use Rattle.payload.specs.declared.layout.Layout.the-variants.{OfDigits, OfSignalling}
 use Rattle.payload.specs.Layout.{layoutOf}
 use Rattle.payload.specs.Content.{dialled, seized, reads, payloadRead}

@@ -9,11 +9,11 @@ use Rattle.octets.proofs.Order.{either}
 use Rattle.levels.specs.Level.{codeOf}
 use Rattle.digits.specs.declared.layout.Digits.{Digits}
 use Rattle.digits.specs.declared.layout.DigitsRead.the-variants.{Dialled}
-use Rattle.dialling.specs.declared.sender.Entry.{Entry}
-use Rattle.dialling.specs.declared.sender.Sender.{Sender}
-use Rattle.dialling.specs.declared.sender.Sending.{Sending}
-use Rattle.dialling.specs.declared.sender.Sending.the-variants.{BadEntry, Unsent, Sent}
-use Rattle.dialling.specs.declared.sender.Taken.{Taken}
+use Rattle.dialling.specs.declared.Entry.{Entry}
+use Rattle.dialling.specs.declared.Sender.{Sender}
+use Rattle.dialling.specs.declared.Sending.{Sending}
+use Rattle.dialling.specs.declared.Sending.the-variants.{BadEntry, Unsent, Sent}
+use Rattle.dialling.specs.declared.Taken.{Taken}
 use Rattle.digits.specs.Layout.{windowWrong, levelLow, digitsOctets}
 use Rattle.digits.specs.Claims.{normalWindow, normal}
 use Rattle.dialling.specs.Sender.{freshSender, windowIn, strayEdge, due, payloadOf, afterSent, afterUnsent, period, refused, sending}

@@ -8,9 +8,9 @@ use Rattle.counts.specs.declared.DigitCount.{DigitCount}
 use Rattle.counts.specs.Round.{onward}
 use Rattle.levels.specs.Level.{codeOf}
 use Rattle.digits.specs.declared.layout.Window.{Window}
-use Rattle.dialling.specs.declared.sender.Entry.{Entry}
-use Rattle.dialling.specs.declared.sender.Sender.{Sender}
-use Rattle.dialling.specs.declared.sender.Sending.the-variants.{Unsent, Sent}
+use Rattle.dialling.specs.declared.Entry.{Entry}
+use Rattle.dialling.specs.declared.Sender.{Sender}
+use Rattle.dialling.specs.declared.Sending.the-variants.{Unsent, Sent}
 use Rattle.digits.specs.Layout.{windowWrong, levelLow}
 use Rattle.dialling.specs.Sender.{windowIn, strayEdge, due, payloadOf, afterSent, afterUnsent, period, refused, sending}
 

@@ -9,9 +9,9 @@ use Rattle.refusal.specs.Order.{_or_}
 use Rattle.levels.specs.Level.{codeOf}
 use Rattle.digits.specs.declared.layout.Window.{Window}
 use Rattle.digits.specs.Layout.{windowWrong, levelLow}
-use Rattle.dialling.specs.declared.sender.Entry.{Entry}
-use Rattle.dialling.specs.declared.sender.Sender.{Sender}
-use Rattle.dialling.specs.declared.sender.Taken.{Taken}
+use Rattle.dialling.specs.declared.Entry.{Entry}
+use Rattle.dialling.specs.declared.Sender.{Sender}
+use Rattle.dialling.specs.declared.Taken.{Taken}
 use Rattle.dialling.specs.Sender.{freshSender, windowIn, strayEdge, loud, due, tailAfter, period, sending}
 use Rattle.dialling.specs.SenderClaims.{loudOf, sentOf, loudPeriods, sentPeriods, nearLoud, SentExactly}
 

@@ -1,4 +1,3 @@
 pub mod Sender
-pub mod Receiver
 pub mod SenderClaims
 pub mod Examples

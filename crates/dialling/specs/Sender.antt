@@ -10,10 +10,10 @@ use Rattle.counts.specs.Round.{onward}
 use Rattle.levels.specs.Level.{codeOf}
 use Rattle.digits.specs.declared.layout.Window.{Window}
 use Rattle.digits.specs.declared.layout.Digits.{Digits}
-use Rattle.dialling.specs.declared.sender.Entry.{Entry}
-use Rattle.dialling.specs.declared.sender.Sender.{Sender}
-use Rattle.dialling.specs.declared.sender.Sending.the-variants.{BadEntry, Unsent, Sent}
-use Rattle.dialling.specs.declared.sender.Taken.{Taken}
+use Rattle.dialling.specs.declared.Entry.{Entry}
+use Rattle.dialling.specs.declared.Sender.{Sender}
+use Rattle.dialling.specs.declared.Sending.the-variants.{BadEntry, Unsent, Sent}
+use Rattle.dialling.specs.declared.Taken.{Taken}
 use Rattle.digits.specs.Layout.{offWindow, windowWrong, levelLow}
 
 -- "Start state: off." The sequence goes "from 0", "the start state standing before the first".

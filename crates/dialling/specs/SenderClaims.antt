@@ -8,10 +8,10 @@ use Rattle.octets.specs.Made.{made}
 use Rattle.digits.specs.declared.layout.Window.{Window}
 use Rattle.digits.specs.declared.layout.Digits.{Digits}
 use Rattle.digits.specs.declared.layout.DigitsRead.the-variants.{Dialled}
-use Rattle.dialling.specs.declared.sender.Entry.{Entry}
-use Rattle.dialling.specs.declared.sender.Sender.{Sender}
-use Rattle.dialling.specs.declared.sender.Sending.{Sending}
-use Rattle.dialling.specs.declared.sender.Sending.the-variants.{BadEntry, Unsent, Sent}
+use Rattle.dialling.specs.declared.Entry.{Entry}
+use Rattle.dialling.specs.declared.Sender.{Sender}
+use Rattle.dialling.specs.declared.Sending.{Sending}
+use Rattle.dialling.specs.declared.Sending.the-variants.{BadEntry, Unsent, Sent}
 use Rattle.digits.specs.Layout.{windowWrong, digitsRead, digitsMade}
 use Rattle.digits.specs.Claims.{normalLevel, normalWindow}
 use Rattle.dialling.specs.Sender.{freshSender, windowIn, loud, sending}

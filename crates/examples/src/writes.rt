@@ -10,8 +10,8 @@ use fax::Stamp;
 use octets::Fit;
 use record::syntax::Record;
 use record::syntax::Syntax;
+use sid::Sid;
 use signalling::layout::Signalling;
-use voice::sid::Sid;
 
 pub fn run() {
     digits_written();
@@ -95,7 +95,7 @@ fn data_and_fax_written() {
 
 // A silence descriptor under pcm.
 fn sid_of(sequence: u8, level: i8) -> Fit {
-    voice::sid::fit_sid(
+    sid::fit_sid(
         Syntax::Pcm,
         Sid::Noise {
             sequence: VoiceCount(sequence),
@@ -117,7 +117,7 @@ fn pcm_of(m: u8, sequence: u8, coding: u8, body: &[u8]) -> Fit {
         m,
         seq: true,
     };
-    voice::voice::fit_voice(pcm, VoiceCount(sequence), coding, body)
+    voice::fit_voice(pcm, VoiceCount(sequence), coding, body)
 }
 
 // acelp with m=1, seq=0.
@@ -127,7 +127,7 @@ fn acelp_of(sequence: u8, coding: u8) -> Fit {
         m: 1,
         seq: false,
     };
-    voice::voice::fit_voice(acelp, VoiceCount(sequence), coding, &[0u8; 10])
+    voice::fit_voice(acelp, VoiceCount(sequence), coding, &[0u8; 10])
 }
 
 fn voice_written() {

@@ -2,10 +2,10 @@
 // does with it to standard output. It reads, has the crate `following` follow, and prints, in fixed memory. Where a write fails it
 // says so and stops.
 use provisioning::text::TextAnswer;
-use provisioning::value::Value;
 use recording::stream::Begun;
 use recording::stream::MOST_KEPT;
 use trunk::Trunk;
+use value::Value;
 ghost use Prim.Native.Nat.{_≤_};
 ghost use lib.ListN.{length};
 ghost use Rattle.following.specs.Following.{mostFollowed};
@@ -221,7 +221,7 @@ fn read_argument() -> Argument {
     }
     let mut word = [10u8; 4];
     let n = os::arg(1, &mut word);
-    match provisioning::value::number_of(&word) {
+    match value::number_of(&word) {
         Value::Whole { value, size } => {
             if size == n + 1 {
                 if value <= 255 {

@@ -9,9 +9,9 @@ use lib.ListN.{length, getD, take, drop}
 use lib.Seq.{take-suc, take-all, take-at}
 use Rattle.refusal.specs.Numbers.{sound}
 use Rattle.octets.specs.Room.{written}
-use Rattle.frame.specs.declared.header.SubFrame.{SubFrame}
-use Rattle.frame.specs.Header.{subAt}
-use Rattle.frame.specs.Opening.{endOf, opening}
+use Rattle.header.specs.declared.SubFrame.{SubFrame}
+use Rattle.header.specs.Header.{subAt, endOf}
+use Rattle.frame.specs.Opening.{opening}
 use Rattle.frame.proofs.Chain as chain
 use Rattle.record.specs.declared.table.Found.{Found}
 use Rattle.record.specs.Record.{foundAt}

@@ -7,12 +7,12 @@ use lib.Dec.{eqb}
 use lib.ListN.{getD, take, drop}
 use Rattle.refusal.specs.Numbers.{sound}
 use Rattle.octets.specs.Text.{ascii}
-use Rattle.frame.specs.declared.header.SubFrame.{SubFrame}
+use Rattle.header.specs.declared.SubFrame.{SubFrame}
 use Rattle.frame.specs.Opening.{Opening, opening}
 use Rattle.record.specs.Record.{foundAt}
 use Rattle.digits.specs.declared.layout.Window.{Window}
 use Rattle.digits.specs.Layout.{offWindow}
-use Rattle.seizing.specs.declared.receiver.Receiver.{Receiver}
+use Rattle.seized.specs.declared.Receiver.{Receiver}
 use Rattle.trunk.specs.declared.Trunk.{Trunk}
 use Rattle.trunk.specs.declared.Heard.{Heard}
 use Rattle.trunk.specs.declared.Heard.the-variants.{HeardNothing, HeardVoice, HeardSilence, HeardDigits, HeardSignalling, HeardData, HeardFax}

@@ -1,5 +1,5 @@
 // A line of a recording as one sub-channel's trunk takes it (docs/FOLLOW.md).
-use frame::header::SubFrame;
+use header::SubFrame;
 use printing::field::put_field;
 use printing::refused::put_refused;
 use recording::line::Read;
@@ -8,7 +8,8 @@ use trunk::Trunk;
 ghost use mathlib.Core.Path.{_≡_};
 ghost use Prim.Native.Nat.{_+_, _≤_};
 ghost use lib.ListN.{length};
-ghost use Rattle.frame.specs.Opening.{endOf, opening};
+ghost use Rattle.header.specs.Header.{endOf};
+ghost use Rattle.frame.specs.Opening.{opening};
 ghost use Rattle.printing.specs.Room.{Appended};
 ghost use Rattle.following.specs.Following.{subLines, subFollowing, subsFollowing, frameFollowing};
 ghost use Rattle.following.specs.Private.{Stands, followingOf};
@@ -82,7 +83,7 @@ fn put_subs(
     let mut place: usize = 0;
     let mut i: usize = 0;
     while i < count {
-        let sub = frame::header::sub_at(frame, place);
+        let sub = header::sub_at(frame, place);
         let shown = put_sub(out, next, n, table, cid, frame, sub, after);
         next = shown.next;
         let then = shown.trunk;
@@ -107,7 +108,7 @@ fn put_frame(
     requires { ⌜ length (now frame) ≤ 1600 ⌝ }
     ensures { λ r. ⌜ Stands (now (out .entry)) at (frameFollowing n (now (table .entry)) cid (now (frame .entry)) trunk) 20032 (now (out .exit)) r ⌝ }
 {
-    let checked = frame::opening::check(frame);
+    let checked = frame::check(frame);
     let number = checked.number;
     if number == refusal::SOUND {
         return put_subs(out, at, n, table, cid, frame, checked.count, trunk);

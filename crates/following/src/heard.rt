@@ -97,12 +97,7 @@ fn put_tens(out: &mut [u8], at: usize, carried: u8, samples: &[u8]) -> usize
     )
 }
 
-fn put_seized(
-    out: &mut [u8],
-    at: usize,
-    seized: Seized,
-    receiver: seizing::receiver::Receiver,
-) -> usize
+fn put_seized(out: &mut [u8], at: usize, seized: Seized, receiver: seized::Receiver) -> usize
     requires { ⌜ at + 207 ≤ length (now out) ⌝ }
     ensures { λ r. ⌜ Appended (now (out .entry)) at (seizedLines seized receiver) 207 (now (out .exit)) r ⌝ }
 {

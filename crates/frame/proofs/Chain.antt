@@ -10,12 +10,12 @@ use lib.Dec.{ltb, eqb}
 use lib.ListN.{length, getD, drop}
 use lib.Seq.{drop-cons}
 use Rattle.refusal.specs.Numbers.{sound, fieldEmpty, fieldTooLong}
-use Rattle.frame.specs.declared.header.SubFrame.{SubFrame}
-use Rattle.frame.specs.declared.header.Header.{Header}
-use Rattle.frame.specs.declared.header.Header.the-variants.{Sub, Bad, Past}
-use Rattle.frame.specs.Header.{headerAt, subAt}
-use Rattle.frame.specs.Opening.{Opening, stopped, endOf, endOfHeader, onwards, scan, scanned, opening}
-use Rattle.frame.proofs.HeaderInverse as inverse
+use Rattle.header.specs.declared.SubFrame.{SubFrame}
+use Rattle.header.specs.declared.Header.{Header}
+use Rattle.header.specs.declared.Header.the-variants.{Sub, Bad, Past}
+use Rattle.header.specs.Header.{headerAt, subAt, endOf}
+use Rattle.frame.specs.Opening.{Opening, stopped, endOfHeader, onwards, scan, scanned, opening}
+use Rattle.header.proofs.HeaderInverse as inverse
 
 module _ (s : List ℕ) where
   abbrev pub Chain : ℕ → List SubFrame → Type 0

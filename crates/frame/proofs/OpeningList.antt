@@ -5,12 +5,12 @@ use mathlib.Core.List.{List, [], _∷_, _++_, append-nil}
 use native.Mathlib.Omega.{arith}
 use lib.ListN.{length, replicate, set, length-append}
 use lib.Seq.{set-at, append-snoc}
-use Rattle.frame.specs.declared.header.SubFrame.{SubFrame}
-use Rattle.frame.specs.declared.header.Header.the-variants.{Sub}
-use Rattle.frame.specs.declared.opening.Opened.{Opened}
-use Rattle.frame.specs.Header.{headerAt, unused, subAt}
-use Rattle.frame.specs.Opening.{mostSubFrames, endOf, opening, answer}
-use Rattle.frame.proofs.HeaderInverse.{sub-at-tells}
+use Rattle.header.specs.declared.SubFrame.{SubFrame}
+use Rattle.header.specs.declared.Header.the-variants.{Sub}
+use Rattle.frame.specs.declared.Opened.{Opened}
+use Rattle.header.specs.Header.{headerAt, unused, subAt, endOf}
+use Rattle.frame.specs.Opening.{mostSubFrames, opening, answer}
+use Rattle.header.proofs.HeaderInverse.{sub-at-tells}
 use Rattle.frame.proofs.OpeningTurns.{Ahead, opens-ahead, opens-few}
 
 -- After i turns the places hold i sub-frames and are unused beyond them, and the others begin at the present place.

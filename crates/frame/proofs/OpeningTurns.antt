@@ -12,12 +12,12 @@ use lib.Seq.{append-snoc}
 use Rattle.octets.proofs.Order.{lt-or-le, eq-or-ne}
 use Rattle.octets.proofs.Texts.{true-not-false}
 use Rattle.refusal.specs.Numbers.{sound, fieldEmpty, fieldTooLong, tooManySubFrames}
-use Rattle.frame.specs.declared.header.SubFrame.{SubFrame}
-use Rattle.frame.specs.declared.header.Header.{Header}
-use Rattle.frame.specs.declared.header.Header.the-variants.{Sub, Bad, Past}
-use Rattle.frame.specs.declared.opening.Checked.{Checked}
-use Rattle.frame.specs.Header.{headerAt}
-use Rattle.frame.specs.Opening.{mostOctets, mostSubFrames, fieldFits, Opening, stopped, before, endOf, endOfHeader, onwards, scan, scanned, opening, checked}
+use Rattle.header.specs.declared.SubFrame.{SubFrame}
+use Rattle.header.specs.declared.Header.{Header}
+use Rattle.header.specs.declared.Header.the-variants.{Sub, Bad, Past}
+use Rattle.frame.specs.declared.Checked.{Checked}
+use Rattle.header.specs.Header.{headerAt, endOf}
+use Rattle.frame.specs.Opening.{mostOctets, mostSubFrames, fieldFits, Opening, stopped, before, endOfHeader, onwards, scan, scanned, opening, checked}
 
 empty-not : fieldEmpty ≡ sound → ⊥
 empty-not e = omega arith

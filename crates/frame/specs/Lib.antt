@@ -1,3 +1,1 @@
-pub mod Header
 pub mod Opening
-pub mod Joining

@@ -7,13 +7,13 @@ use lib.Dec.{ltb, leb, eqb}
 use lib.ListN.{length, replicate}
 use Rattle.refusal.specs.Numbers.{sound, fieldEmpty, fieldTooLong, tooManySubFrames}
 use Rattle.refusal.specs.Order.{_gives_, inOrder}
-use Rattle.frame.specs.declared.header.SubFrame.{SubFrame}
-use Rattle.frame.specs.declared.header.Header.{Header}
-use Rattle.frame.specs.declared.header.Header.the-variants.{Sub, Bad, Past}
-use Rattle.frame.specs.declared.opening.Opened.{Opened}
-use Rattle.frame.specs.declared.opening.Checked.{Checked}
-use Rattle.frame.specs.Header.{headerAt}
-pub use Rattle.frame.specs.Header.{unused}
+use Rattle.header.specs.declared.SubFrame.{SubFrame}
+use Rattle.header.specs.declared.Header.{Header}
+use Rattle.header.specs.declared.Header.the-variants.{Sub, Bad, Past}
+use Rattle.frame.specs.declared.Opened.{Opened}
+use Rattle.frame.specs.declared.Checked.{Checked}
+use Rattle.header.specs.Header.{headerAt, endOf}
+pub use Rattle.header.specs.Header.{unused}
 
 abbrev pub mostOctets : ℕ
 mostOctets = 1600
@@ -38,10 +38,6 @@ stopped number at = record { number = number; at = at; subs = [] }
 -- a sub-frame, before what follows it
 abbrev pub before : SubFrame → Opening → Opening
 before sub rest = record { number = rest .number; at = rest .at; subs = sub ∷ rest .subs }
-
--- where a sub-frame ends
-abbrev pub endOf : SubFrame → ℕ
-endOf sub = sub .start + sub .len
 
 abbrev pub endOfHeader : Header → ℕ
 endOfHeader (Sub sub) = endOf sub

@@ -9,8 +9,8 @@ use lib.Dec.{eqb}
 use lib.ListN.{length, replicate}
 use Rattle.octets.specs.Octets.{Octets}
 use Rattle.frame.specs.Opening.{mostOctets}
-use Rattle.frame.specs.Joining.{Member, isNone, joined, eiFor, liFor, shortestHeader}
-use Rattle.frame.proofs.HeaderWritten.{ei-one-of}
+use Rattle.joining.specs.Joining.{Member, isNone, joined, eiFor, liFor, shortestHeader}
+use Rattle.joining.proofs.HeaderWritten.{ei-one-of}
 use Rattle.framing.specs.Claims.{Carriable, Each, Fits, PayloadOctets, JoinedOctets, content, fullest}
 
 octets-none : Octets []

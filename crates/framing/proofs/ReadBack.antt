@@ -7,10 +7,10 @@ use mathlib.Core.Logic.{_⊎_, ⊎-elim}
 use native.Mathlib.Omega.{arith}
 use lib.Dec.{eqb}
 use lib.ListN.{length, drop, length-drop}
-use Rattle.frame.specs.declared.header.Header.the-variants.{Sub}
-use Rattle.frame.specs.Header.{ei, li, lowBits, spare, payloadType, size, octet1, octet1a, octet1b, cidOf, told, headerAt}
-use Rattle.frame.specs.Joining.{liFor, headerWith}
-use Rattle.frame.proofs.HeaderCases as cases
+use Rattle.header.specs.declared.Header.the-variants.{Sub}
+use Rattle.header.specs.Header.{ei, li, lowBits, spare, payloadType, size, octet1, octet1a, octet1b, cidOf, told, headerAt}
+use Rattle.joining.specs.Joining.{liFor, headerWith}
+use Rattle.header.proofs.HeaderCases as cases
 
 -- octet 1a of a header, 0 without it
 abbrev pub extension : ℕ → ℕ → ℕ → ℕ

@@ -12,13 +12,12 @@ use lib.Dec.{T, eqb}
 use lib.ListN.{length, getD, take, drop, length-drop, take-append-drop}
 use lib.Seq.{drop-drop, getD-drop}
 use Rattle.octets.proofs.Order.{eq-or-ne}
-use Rattle.frame.specs.declared.header.SubFrame.{SubFrame}
-use Rattle.frame.specs.declared.header.Header.the-variants.{Sub}
-use Rattle.frame.specs.Header.{ei, li, spare, payloadType, size, octet1, octet1a, octet1b, cidOf, headerAt}
-use Rattle.frame.specs.Opening.{endOf}
-use Rattle.frame.specs.Joining.{eiFor, headerWith}
-use Rattle.frame.proofs.HeaderWritten.{ei-out}
-use Rattle.frame.proofs.HeaderInverse as inverse
+use Rattle.header.specs.declared.SubFrame.{SubFrame}
+use Rattle.header.specs.declared.Header.the-variants.{Sub}
+use Rattle.header.specs.Header.{ei, li, spare, payloadType, size, octet1, octet1a, octet1b, cidOf, headerAt, endOf}
+use Rattle.joining.specs.Joining.{eiFor, headerWith}
+use Rattle.joining.proofs.HeaderWritten.{ei-out}
+use Rattle.header.proofs.HeaderInverse as inverse
 use Rattle.octets.specs.Octets.{Octets}
 
 -- the first one to three octets of a list, one by one

@@ -10,12 +10,12 @@ use lib.ListN.{length, take, drop, length-append}
 use lib.Seq.{drop-drop, drop-at, take-at}
 use Rattle.octets.proofs.Order.{eq-or-ne}
 use Rattle.refusal.specs.Numbers.{sound}
-use Rattle.frame.specs.declared.header.SubFrame.{SubFrame}
-use Rattle.frame.specs.declared.header.Header.the-variants.{Sub}
-use Rattle.frame.specs.Header.{headerAt}
-use Rattle.frame.specs.Opening.{mostSubFrames, Opening, scan, scanned, before, stopped, endOf}
-use Rattle.frame.specs.Joining.{Member, isNone, joined, eiFor, liFor, headerWith, shortestHeader, headerSize}
-use Rattle.frame.proofs.HeaderWritten.{ei-one-of, ei-out, ei-set, size-is, some-room}
+use Rattle.header.specs.declared.SubFrame.{SubFrame}
+use Rattle.header.specs.declared.Header.the-variants.{Sub}
+use Rattle.header.specs.Header.{headerAt, endOf}
+use Rattle.frame.specs.Opening.{mostSubFrames, Opening, scan, scanned, before, stopped}
+use Rattle.joining.specs.Joining.{Member, isNone, joined, eiFor, liFor, headerWith, shortestHeader, headerSize}
+use Rattle.joining.proofs.HeaderWritten.{ei-one-of, ei-out, ei-set, size-is, some-room}
 use Rattle.frame.proofs.OpeningTurns as turns
 use Rattle.framing.specs.Claims.{Each, Fits, contentOf, OpensToTheSame}
 use Rattle.framing.proofs.ReadBack.{Enough, last-back, more-back}

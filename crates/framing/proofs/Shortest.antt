@@ -13,14 +13,14 @@ use lib.Seq.{length-take-le}
 use Rattle.octets.proofs.Order.{lt-or-le, eq-or-ne}
 use Rattle.refusal.specs.Numbers.{sound}
 use Rattle.octets.specs.Octets.{Octets}
-use Rattle.frame.specs.declared.header.SubFrame.{SubFrame}
-use Rattle.frame.specs.declared.header.Header.the-variants.{Sub}
-use Rattle.frame.specs.Header.{ei, octet1, headerAt}
-use Rattle.frame.specs.Opening.{mostOctets, mostSubFrames, Opening, scan, scanned, opening, before, stopped, endOf}
-use Rattle.frame.specs.Joining.{Member, isNone, joined, eiFor, liFor, headerWith, shortestHeader, headerSize}
-use Rattle.frame.proofs.HeaderWritten.{ei-one-of, with-size, size-is}
-use Rattle.frame.proofs.HeaderInverse as inverse
-use Rattle.frame.proofs.HeaderCases as cases
+use Rattle.header.specs.declared.SubFrame.{SubFrame}
+use Rattle.header.specs.declared.Header.the-variants.{Sub}
+use Rattle.header.specs.Header.{ei, octet1, headerAt, endOf}
+use Rattle.frame.specs.Opening.{mostOctets, mostSubFrames, Opening, scan, scanned, opening, before, stopped}
+use Rattle.joining.specs.Joining.{Member, isNone, joined, eiFor, liFor, headerWith, shortestHeader, headerSize}
+use Rattle.joining.proofs.HeaderWritten.{ei-one-of, with-size, size-is}
+use Rattle.header.proofs.HeaderInverse as inverse
+use Rattle.header.proofs.HeaderCases as cases
 use Rattle.frame.proofs.OpeningTurns as turns
 use Rattle.framing.specs.Claims.{Carriable, Each, contentOf, list, Sound, needless, AsLongAsJoined, OneShortest}
 use Rattle.framing.proofs.Recompose as made

@@ -1,6 +1,6 @@
 -- Demand 2, for frames: what is joined opens to the same list, and the joined form is the one shortest (document 01, "Frame
--- and sub-frame"). `opening` is what `frame::opening::open` answers by its contract, and `joined` is made of `shortestHeader`,
--- which `frame::joining::put_header` writes by its contract. Proved in proofs/Same.antt, proofs/Shortest.antt and proofs/Octets.antt.
+-- and sub-frame"). `opening` is what `frame::open` answers by its contract, and `joined` is made of `shortestHeader`,
+-- which `joining::put_header` writes by its contract. Proved in proofs/Same.antt, proofs/Shortest.antt and proofs/Octets.antt.
 use Prim.Native.Nat.{ℕ, _+_, _≤_}
 use mathlib.Core.Path.{_≡_}
 use mathlib.Core.List.{List, [], _∷_, _++_, map}
@@ -9,10 +9,10 @@ use lib.Dec.{eqb}
 use lib.ListN.{length, getD, take, drop, replicate}
 use Rattle.octets.specs.Octets.{Octets}
 use Rattle.refusal.specs.Numbers.{sound}
-use Rattle.frame.specs.declared.header.SubFrame.{SubFrame}
-use Rattle.frame.specs.Header.{ei}
-use Rattle.frame.specs.Opening.{mostOctets, mostSubFrames, opening, endOf}
-use Rattle.frame.specs.Joining.{Member, isNone, joined, eiFor}
+use Rattle.header.specs.declared.SubFrame.{SubFrame}
+use Rattle.header.specs.Header.{ei, endOf}
+use Rattle.frame.specs.Opening.{mostOctets, mostSubFrames, opening}
+use Rattle.joining.specs.Joining.{Member, isNone, joined, eiFor}
 
 -- CIDs 4 to 255, types 0 to 15, a payload of at most 255 octets unless it is the last.
 pub record Carriable (c : Member) (last : Bool) : Type 0 where

@@ -14,8 +14,9 @@ use Rattle.octets.specs.declared.Put.the-variants.{Written, NotWritten}
 use Rattle.octets.specs.Room.{written, leftBy}
 use Rattle.recording.proofs.LineCases as cases
 use Rattle.recording.proofs.LineCases.{Fair}
-use Rattle.frame.specs.declared.header.SubFrame.{SubFrame}
-use Rattle.frame.specs.Opening.{endOf, opening}
+use Rattle.header.specs.declared.SubFrame.{SubFrame}
+use Rattle.header.specs.Header.{endOf}
+use Rattle.frame.specs.Opening.{opening}
 use Rattle.record.specs.declared.table.Found.{Found}
 use Rattle.record.specs.Record.{foundAt}
 use Rattle.payload.specs.Content.{payloadRead, numberOf}

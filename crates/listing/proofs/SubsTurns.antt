@@ -5,9 +5,9 @@ use mathlib.Core.List.{List, _++_}
 use native.Mathlib.Omega.{arith}
 use lib.ListN.{length, take, drop}
 use lib.Seq.{take-all}
-use Rattle.frame.specs.declared.header.SubFrame.{SubFrame}
-use Rattle.frame.specs.Header.{subAt}
-use Rattle.frame.specs.Opening.{endOf, opening}
+use Rattle.header.specs.declared.SubFrame.{SubFrame}
+use Rattle.header.specs.Header.{subAt, endOf}
+use Rattle.frame.specs.Opening.{opening}
 use Rattle.frame.proofs.Chain as chain
 use Rattle.listing.specs.Listing.{subListing, subsListing}
 use Rattle.printing.specs.Room.{Appended}

@@ -8,7 +8,7 @@ use Rattle.refusal.specs.Numbers.{sound, roomTooSmall}
 use Rattle.octets.specs.declared.Put.{Put}
 use Rattle.octets.specs.declared.Put.the-variants.{Written, NotWritten}
 use Rattle.octets.specs.Text.{ascii}
-use Rattle.frame.specs.declared.header.SubFrame.{SubFrame}
+use Rattle.header.specs.declared.SubFrame.{SubFrame}
 use Rattle.frame.specs.Opening.{Opening, opening}
 use Rattle.record.specs.Record.{foundAt}
 use Rattle.payload.specs.Content.{payloadRead, numberOf}

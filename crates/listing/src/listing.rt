@@ -1,5 +1,5 @@
 // The listing of a line (document 01, "Listing program").
-use frame::header::SubFrame;
+use header::SubFrame;
 use octets::Put;
 use printing::field::put_field;
 use printing::field::put_octet_field;
@@ -9,7 +9,8 @@ ghost use mathlib.Core.Path.{_≡_};
 ghost use Prim.Native.Nat.{_+_, _≤_};
 ghost use lib.ListN.{length};
 ghost use Rattle.octets.specs.Room.{leftBy};
-ghost use Rattle.frame.specs.Opening.{endOf, opening};
+ghost use Rattle.header.specs.Header.{endOf};
+ghost use Rattle.frame.specs.Opening.{opening};
 ghost use Rattle.listing.specs.Listing.{fourFields, subListing, subsListing, frameListing, lineListing, listed};
 ghost use Rattle.listing.specs.Private.{listingOf};
 ghost use Rattle.printing.specs.Room.{Appended};
@@ -52,7 +53,7 @@ fn put_subs(out: &mut [u8], at: usize, table: &[u16; 256], frame: &[u8], count: 
     let mut place: usize = 0;
     let mut i: usize = 0;
     while i < count {
-        let sub = frame::header::sub_at(frame, place);
+        let sub = header::sub_at(frame, place);
         next = put_sub(out, next, table, frame, sub);
         place = sub.start + sub.len;
         i += 1;
@@ -66,7 +67,7 @@ fn put_frame(out: &mut [u8], at: usize, n: u64, table: &[u16; 256], frame: &[u8]
     requires { ⌜ length (now frame) ≤ 1600 ⌝ }
     ensures { λ r. ⌜ Appended (now (out .entry)) at (frameListing n (now (table .entry)) (now (frame .entry))) 6709 (now (out .exit)) r ⌝ }
 {
-    let checked = frame::opening::check(frame);
+    let checked = frame::check(frame);
     let number = checked.number;
     if number == refusal::SOUND {
         let past_frame = put_field(out, at, b"frame=", n);

@@ -14,9 +14,9 @@ use fax::Stamp;
 use payload::layout::Kind;
 use record::syntax::Record;
 use record::syntax::Syntax;
-use voice::sid::Sid;
-use voice::sid::SidRead;
-use voice::voice::VoiceRead;
+use sid::Sid;
+use sid::SidRead;
+use voice::VoiceRead;
 
 pub fn same_speech(rec: Record, payload: &[u8], given: Given) -> bool {
     let kind = given.kind;
@@ -25,7 +25,7 @@ pub fn same_speech(rec: Record, payload: &[u8], given: Given) -> bool {
     };
     let due = given.rec;
     let speech = contents::draw_speech(due, given.seed);
-    match voice::voice::read_voice(rec, payload) {
+    match voice::read_voice(rec, payload) {
         VoiceRead::Voice {
             sequence,
             coding,
@@ -243,7 +243,7 @@ pub fn same_silence(syntax: Syntax, payload: &[u8], given: Given) -> bool {
     let rec = given.rec;
     let own = rec.syntax;
     let due = contents::draw_silence(own, given.seed);
-    match voice::sid::read_sid(syntax, payload) {
+    match sid::read_sid(syntax, payload) {
         SidRead::Silence(read) => same_noise(read, due),
         SidRead::BadSid(_) => false,
     }

@@ -11,7 +11,7 @@ use fax::Command;
 use fax::Stamp;
 use record::syntax::Record;
 use record::syntax::Syntax;
-use voice::sid::Sid;
+use sid::Sid;
 ghost use Prim.Native.Nat.{_≤_};
 
 pub struct Speech {
@@ -93,7 +93,7 @@ fn blocks(rec: Record, coding: u8, state: u64) -> Body {
 pub fn draw_speech(rec: Record, seed: u64) -> Speech {
     let mut at = seed;
     let syntax = rec.syntax;
-    let coding = draws::below(&mut at, voice::voice::coding_count(syntax));
+    let coding = draws::below(&mut at, voice::coding_count(syntax));
     let drawn = draws::below(&mut at, 16);
     let sequence = VoiceCount(if rec.seq { drawn } else { 0 });
     let body = match syntax {

@@ -2,7 +2,7 @@
 use crate::compare;
 use crate::list::Given;
 use crate::list::List;
-use frame::header::SubFrame;
+use header::SubFrame;
 use payload::layout::Layout;
 use reader::Found;
 

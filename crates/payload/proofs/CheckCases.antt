@@ -9,10 +9,10 @@ use Rattle.octets.proofs.Order.{eq-or-ne}
 use Rattle.record.specs.declared.syntax.Record.{Record}
 use Rattle.record.specs.declared.syntax.Syntax.{Syntax}
 use Rattle.record.specs.declared.table.Found.{Found}
-use Rattle.voice.specs.declared.voice.VoiceRead.{VoiceRead}
-use Rattle.voice.specs.declared.sid.SidRead.{SidRead}
+use Rattle.voice.specs.declared.VoiceRead.{VoiceRead}
+use Rattle.sid.specs.declared.SidRead.{SidRead}
 use Rattle.voice.specs.Voice.{voiceRead}
-use Rattle.voice.specs.Sid.{sidRead}
+use Rattle.sid.specs.Sid.{sidRead}
 use Rattle.data.specs.declared.DataRead.{DataRead}
 use Rattle.data.specs.Data.{dataRead}
 use Rattle.fax.specs.declared.FaxRead.{FaxRead}

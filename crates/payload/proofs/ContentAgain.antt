@@ -14,13 +14,13 @@ use Rattle.octets.specs.Made.{made}
 use Rattle.octets.proofs.Order.{eq-or-ne}
 use Rattle.record.specs.declared.syntax.Record.{Record}
 use Rattle.record.specs.declared.table.Found.the-variants.{Provisioned, Unprovisioned}
-use Rattle.voice.specs.declared.voice.VoiceRead.{VoiceRead}
-use Rattle.voice.specs.declared.voice.VoiceRead.the-variants.{Voice, BadVoice}
-use Rattle.voice.specs.declared.sid.SidRead.{SidRead}
-use Rattle.voice.specs.declared.sid.SidRead.the-variants.{Silence, BadSid}
-use Rattle.voice.specs.Claims.{unreserved}
+use Rattle.voice.specs.declared.VoiceRead.{VoiceRead}
+use Rattle.voice.specs.declared.VoiceRead.the-variants.{Voice, BadVoice}
+use Rattle.sid.specs.declared.SidRead.{SidRead}
+use Rattle.sid.specs.declared.SidRead.the-variants.{Silence, BadSid}
+use Rattle.sid.specs.Claims.{unreserved}
 use Rattle.voice.specs.Voice.{voiceRead}
-use Rattle.voice.specs.Sid.{sidRead}
+use Rattle.sid.specs.Sid.{sidRead}
 use Rattle.data.specs.declared.DataRead.{DataRead}
 use Rattle.data.specs.declared.DataRead.the-variants.{Fragment, BadData}
 use Rattle.data.specs.Data.{dataRead}
@@ -33,7 +33,7 @@ use Rattle.digits.specs.Layout.{digitsRead}
 use Rattle.digits.specs.Claims.{unheard}
 use Rattle.signalling.specs.Layout.{signallingRead}
 use Rattle.voice.proofs.VoiceBack.{voice-made-again}
-use Rattle.voice.proofs.SidBack.{sid-made-again, sid-read-alike}
+use Rattle.sid.proofs.SidBack.{sid-made-again, sid-read-alike}
 use Rattle.data.proofs.Back as data-back
 use Rattle.fax.proofs.ReadMakes as fax-again
 use Rattle.digits.proofs.LayoutBack.{digits-made-again, digits-read-alike}

@@ -12,8 +12,8 @@ use Rattle.record.specs.declared.table.Found.{Found}
 use Rattle.record.specs.declared.table.Found.the-variants.{Provisioned, Unprovisioned}
 use Rattle.record.specs.declared.syntax.Syntax.the-variants.{Acelp, Data}
 use Rattle.voice.specs.Voice.{blockOctets, bodyOctets, frontOf, voiceMade}
-use Rattle.voice.specs.declared.sid.Sid.the-variants.{Plain}
-use Rattle.voice.specs.Sid.{sidMade}
+use Rattle.sid.specs.declared.Sid.the-variants.{Plain}
+use Rattle.sid.specs.Sid.{sidMade}
 use Rattle.data.specs.Data.{dataMade}
 use Rattle.fax.specs.declared.Stamp.the-variants.{Stamped}
 use Rattle.fax.specs.declared.Command.the-variants.{Off}
@@ -22,7 +22,7 @@ use Rattle.digits.specs.declared.layout.Window.{Window}
 use Rattle.digits.specs.Layout.{digitsMade}
 use Rattle.signalling.specs.Layout.{allAllowed, pairs, signallingMade}
 use Rattle.voice.proofs.VoiceBack.{voice-reads-back}
-use Rattle.voice.proofs.SidBack.{sid-reads-back}
+use Rattle.sid.proofs.SidBack.{sid-reads-back}
 use Rattle.data.proofs.Back as data-back
 use Rattle.fax.proofs.MadeReads as fax-back
 use Rattle.digits.proofs.LayoutBack.{digits-read-back}

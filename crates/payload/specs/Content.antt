@@ -12,13 +12,13 @@ use Rattle.counts.specs.declared.DataCount.{DataCount}
 use Rattle.record.specs.declared.syntax.Record.{Record}
 use Rattle.record.specs.declared.table.Found.{Found}
 use Rattle.record.specs.declared.table.Found.the-variants.{Provisioned, Unprovisioned}
-use Rattle.voice.specs.declared.voice.VoiceRead.{VoiceRead}
-use Rattle.voice.specs.declared.voice.VoiceRead.the-variants.{Voice, BadVoice}
-use Rattle.voice.specs.declared.sid.Sid.{Sid}
-use Rattle.voice.specs.declared.sid.SidRead.{SidRead}
-use Rattle.voice.specs.declared.sid.SidRead.the-variants.{Silence, BadSid}
+use Rattle.voice.specs.declared.VoiceRead.{VoiceRead}
+use Rattle.voice.specs.declared.VoiceRead.the-variants.{Voice, BadVoice}
+use Rattle.sid.specs.declared.Sid.{Sid}
+use Rattle.sid.specs.declared.SidRead.{SidRead}
+use Rattle.sid.specs.declared.SidRead.the-variants.{Silence, BadSid}
 use Rattle.voice.specs.Voice.{voiceRead, voiceMade}
-use Rattle.voice.specs.Sid.{sidRead, sidMade}
+use Rattle.sid.specs.Sid.{sidRead, sidMade}
 use Rattle.data.specs.declared.DataRead.{DataRead}
 use Rattle.data.specs.declared.DataRead.the-variants.{Fragment, BadData}
 use Rattle.data.specs.Data.{dataRead, dataMade}

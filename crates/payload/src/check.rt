@@ -4,8 +4,8 @@ use data::DataRead;
 use digits::layout::DigitsRead;
 use fax::FaxRead;
 use record::table::Found;
-use voice::sid::SidRead;
-use voice::voice::VoiceRead;
+use sid::SidRead;
+use voice::VoiceRead;
 ghost use mathlib.Core.Path.{_≡_};
 ghost use Rattle.payload.specs.Content.{payloadRead, numberOf};
 
@@ -14,7 +14,7 @@ pub fn check_payload(found: Found, ptype: u8, payload: &[u8]) -> u8
     ensures { λ r. ⌜ r ≡ numberOf (payloadRead found ptype (now (payload .entry))) ⌝ }
 {
     match crate::layout::layout_of(found, ptype) {
-        Layout::OfVoice(rec) => match voice::voice::read_voice(rec, payload) {
+        Layout::OfVoice(rec) => match voice::read_voice(rec, payload) {
             VoiceRead::Voice { .. } => 0,
             VoiceRead::BadVoice(number) => number,
         },
@@ -30,7 +30,7 @@ pub fn check_payload(found: Found, ptype: u8, payload: &[u8]) -> u8
             FaxRead::Fax { .. } => 0,
             FaxRead::BadFax(number) => number,
         },
-        Layout::OfSid(syntax) => match voice::sid::read_sid(syntax, payload) {
+        Layout::OfSid(syntax) => match sid::read_sid(syntax, payload) {
             SidRead::Silence(_) => 0,
             SidRead::BadSid(number) => number,
         },

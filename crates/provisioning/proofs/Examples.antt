@@ -8,7 +8,7 @@ use lib.ListN.{replicate}
 use Rattle.octets.specs.Text.{ascii, lf, starts, hasLf}
 use Rattle.record.specs.declared.syntax.Syntax.the-variants.{Acelp}
 use Rattle.record.specs.Record.{syntaxAt, packed, meaning, foundAt}
-use Rattle.provisioning.specs.Value.{digitOf, thirdDigit, secondDigit, numberBy, wordAmong, valueLine}
+use Rattle.value.specs.Value.{digitOf, thirdDigit, secondDigit, numberBy, wordAmong, valueLine}
 use Rattle.provisioning.specs.Line.{lineBy}
 use Rattle.provisioning.specs.Text.{Entry, Reading, refused, taken, walk, reading, tableOf}
 use Rattle.provisioning.specs.Back.{decimal, blockText, textFrom, textOfTable}

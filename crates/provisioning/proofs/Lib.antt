@@ -1,4 +1,3 @@
-pub mod Values
 pub mod Numbers
 pub mod Lines
 pub mod Steps

@@ -16,15 +16,15 @@ use Rattle.record.specs.declared.syntax.Syntax.the-variants.{Acelp, Pcm, G727, 
 use Rattle.record.specs.declared.syntax.Record.{Record}
 use Rattle.record.specs.Record.{word, place, mostM, seqListed}
 use Rattle.record.proofs.Listed.{both, most-small}
-use Rattle.provisioning.specs.declared.value.Value.{Value}
-use Rattle.provisioning.specs.declared.value.Value.the-variants.{Whole, Malformed}
+use Rattle.value.specs.declared.Value.{Value}
+use Rattle.value.specs.declared.Value.the-variants.{Whole, Malformed}
 use Rattle.provisioning.specs.declared.line.Kind.{Kind}
 use Rattle.provisioning.specs.declared.line.Kind.the-variants.{OfCid, OfSyntax, OfM, OfSeq}
 use Rattle.provisioning.specs.declared.line.State.{State}
 use Rattle.provisioning.specs.declared.line.Step.the-variants.{Goes, Stops}
-use Rattle.provisioning.specs.Value.{wordAmong, wordOf, valueLine}
+use Rattle.value.specs.Value.{wordAmong, wordOf, valueLine}
 use Rattle.provisioning.specs.Line.{row, lineBy}
-use Rattle.provisioning.proofs.Values as values
+use Rattle.value.proofs.Values as values
 use Rattle.provisioning.proofs.Numbers as numbers
 
 -- the key of the kind that is due

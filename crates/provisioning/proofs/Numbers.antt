@@ -8,10 +8,10 @@ use borrow.Author.Tests.{lt-ltb, le-ltb}
 use lib.ListN.{length, getD, drop, List·getD-eq-default}
 use lib.Seq.{drop-cons}
 use Rattle.octets.proofs.Order.{lt-or-le, eq-or-ne}
-use Rattle.provisioning.specs.declared.value.Value.the-variants.{Whole, Malformed}
-use Rattle.provisioning.specs.Value.{digitOf, numberOf}
+use Rattle.value.specs.declared.Value.the-variants.{Whole, Malformed}
+use Rattle.value.specs.Value.{digitOf, numberOf}
 use Rattle.provisioning.specs.Back.{decimal}
-use Rattle.provisioning.proofs.Values as values
+use Rattle.value.proofs.Values as values
 
 pub record Read (s : List ℕ) (value size : ℕ) : Type 0 where
   pub some : 2 ≤ size

@@ -15,17 +15,17 @@ use Rattle.record.specs.declared.syntax.Syntax.{Syntax}
 use Rattle.record.specs.Record.{word, seqListed, syntaxAt}
 use Rattle.record.proofs.Listed.{both}
 use Rattle.record.proofs.Packing.{low-bit, place-back}
-use Rattle.provisioning.specs.declared.value.Value.{Value}
-use Rattle.provisioning.specs.declared.value.Value.the-variants.{Whole, Malformed}
+use Rattle.value.specs.declared.Value.{Value}
+use Rattle.value.specs.declared.Value.the-variants.{Whole, Malformed}
 use Rattle.provisioning.specs.declared.line.Kind.{Kind}
 use Rattle.provisioning.specs.declared.line.Kind.the-variants.{OfCid, OfSyntax, OfM, OfSeq}
 use Rattle.provisioning.specs.declared.line.State.{State}
 use Rattle.provisioning.specs.declared.line.Step.{Step}
 use Rattle.provisioning.specs.declared.line.Step.the-variants.{Goes, Stops}
-use Rattle.provisioning.specs.Value.{further, valueLine}
+use Rattle.value.specs.Value.{further, valueLine}
 use Rattle.provisioning.specs.Line.{row, lineBy, lineAt}
 use Rattle.provisioning.specs.Back.{valueText, lineText}
-use Rattle.provisioning.proofs.Values as values
+use Rattle.value.proofs.Values as values
 use Rattle.provisioning.proofs.Numbers as numbers
 use Rattle.provisioning.proofs.Lines as lines
 

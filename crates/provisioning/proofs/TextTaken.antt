@@ -16,18 +16,18 @@ use Rattle.record.specs.declared.syntax.Record.{Record}
 use Rattle.record.specs.Record.{word, place, mListed, seqListed, legal}
 use Rattle.record.proofs.Listed.{both}
 use Rattle.record.proofs.Packing.{bit-small, bit-of, place-back, m-small}
-use Rattle.provisioning.specs.declared.value.Value.the-variants.{Whole}
+use Rattle.value.specs.declared.Value.the-variants.{Whole}
 use Rattle.provisioning.specs.declared.line.Kind.{Kind}
 use Rattle.provisioning.specs.declared.line.Kind.the-variants.{OfCid, OfSyntax, OfM, OfSeq}
 use Rattle.provisioning.specs.declared.line.State.{State}
 use Rattle.provisioning.specs.declared.line.Step.{Step}
 use Rattle.provisioning.specs.declared.line.Step.the-variants.{Goes}
-use Rattle.provisioning.specs.Value.{digitOf, numberOf, wordAmong, wordOf, valueLine}
+use Rattle.value.specs.Value.{digitOf, numberOf, wordAmong, wordOf, valueLine}
 use Rattle.provisioning.specs.Line.{row, lineAt}
 use Rattle.provisioning.specs.Text.{mostOctets, Entry, taken, before, after, onwards, walk}
 use Rattle.provisioning.specs.Back.{decimal, valueText, lineText, blockText}
 use Rattle.provisioning.specs.Claims.{textOf, Risen, Rises, LegalTaken}
-use Rattle.provisioning.proofs.Values as values
+use Rattle.value.proofs.Values as values
 use Rattle.provisioning.proofs.Lines as lines
 use Rattle.provisioning.proofs.Turns as turns
 

@@ -14,7 +14,7 @@ use Rattle.provisioning.specs.declared.line.Step.the-variants.{Goes, Sto
 use Rattle.record.specs.Record.{packed}
 use Rattle.provisioning.specs.Line.{start, row, lineAt}
 use Rattle.provisioning.specs.Text.{mostOctets, Entry, Reading, refused, taken, before, atEnd, onwards, walk, reading, filled, tableOf}
-use Rattle.provisioning.proofs.Values as values
+use Rattle.value.proofs.Values as values
 use Rattle.provisioning.proofs.Steps as steps
 
 -- entries that were found, before what is still to come

@@ -1,4 +1,3 @@
-pub mod Value
 pub mod Line
 pub mod Text
 pub mod Back

@@ -9,13 +9,13 @@ use Rattle.refusal.specs.Order.{_gives_, inOrder}
 use Rattle.record.specs.declared.syntax.Syntax.the-variants.{Acelp}
 use Rattle.record.specs.declared.syntax.Record.{Record}
 use Rattle.record.specs.Record.{mListed, seqListed, syntaxAt}
-use Rattle.provisioning.specs.declared.value.Value.{Value}
+use Rattle.value.specs.declared.Value.{Value}
 use Rattle.provisioning.specs.declared.line.Kind.{Kind}
 use Rattle.provisioning.specs.declared.line.Kind.the-variants.{OfCid, OfSyntax, OfM, OfSeq}
 use Rattle.provisioning.specs.declared.line.State.{State}
 use Rattle.provisioning.specs.declared.line.Step.{Step}
 use Rattle.provisioning.specs.declared.line.Step.the-variants.{Goes, Stops}
-use Rattle.provisioning.specs.Value.{numberOf, wordOf, valueLine, malformed, valueIn, sizeIn}
+use Rattle.value.specs.Value.{numberOf, wordOf, valueLine, malformed, valueIn, sizeIn}
 
 -- a line of this kind is due, and these are the CID and the record under way
 abbrev pub due : Kind → ℕ → Record → State

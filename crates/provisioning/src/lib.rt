@@ -1,4 +1,3 @@
 // The provisioning text (document 01, "Provisioning text").
 mod line;
 pub mod text;
-pub mod value;

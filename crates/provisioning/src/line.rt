@@ -1,12 +1,12 @@
 // One line of a provisioning text, by its kind and by what the lines before it told (document 01, "Provisioning text").
-use crate::value::Value;
 use record::syntax::Record;
 use record::syntax::Syntax;
+use value::Value;
 ghost use mathlib.Core.Path.{_≡_};
 ghost use mathlib.Core.Bool.{_&&_};
 ghost use lib.Dec.{leb, eqb};
 ghost use Rattle.record.specs.Record.{seqListed};
-ghost use Rattle.provisioning.specs.Value.{valueLine};
+ghost use Rattle.value.specs.Value.{valueLine};
 ghost use Rattle.provisioning.specs.Line.{row, start, lineAt};
 
 // The kinds of lines of a block, in their order.
@@ -65,10 +65,10 @@ fn value_of(s: &[u8], kind: Kind) -> Value
     ensures { λ r. ⌜ r ≡ row kind .read (now (s .entry)) ⌝ }
 {
     match kind {
-        Kind::OfCid => crate::value::number_of(s),
-        Kind::OfSyntax => crate::value::word_of(s),
-        Kind::OfM => crate::value::number_of(s),
-        Kind::OfSeq => crate::value::number_of(s),
+        Kind::OfCid => value::number_of(s),
+        Kind::OfSyntax => value::word_of(s),
+        Kind::OfM => value::number_of(s),
+        Kind::OfSeq => value::number_of(s),
     }
 }
 

@@ -6,10 +6,10 @@ use native.Mathlib.Omega.{arith}
 use borrow.Author.Tests.{lt-ltb, le-ltb, eq-eqb, ne-eqb}
 use lib.ListN.{length, take, drop}
 use Rattle.refusal.specs.Numbers.{sound}
-use Rattle.frame.specs.declared.header.SubFrame.{SubFrame}
-use Rattle.frame.specs.declared.header.Header.{Header}
-use Rattle.frame.specs.Header.{headerAt}
-use Rattle.frame.specs.Opening.{opening, endOf}
+use Rattle.header.specs.declared.SubFrame.{SubFrame}
+use Rattle.header.specs.declared.Header.{Header}
+use Rattle.header.specs.Header.{headerAt, endOf}
+use Rattle.frame.specs.Opening.{opening}
 use Rattle.reader.specs.Reading.{startOf, met, nextOf, payloadOf, payloadAt}
 
 module _ (s : List ℕ) where

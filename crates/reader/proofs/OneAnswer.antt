@@ -12,7 +12,7 @@ use prog.Wp.{Heap}
 use contract.Lifetimes.{Lfts}
 use contract.Monad.{Fun, fact}
 use denote.Ref.{RefT, now}
-use Rattle.frame.specs.declared.header.SubFrame.{SubFrame}
+use Rattle.header.specs.declared.SubFrame.{SubFrame}
 use Rattle.reader.specs.declared.Found.{Found}
 use Rattle.reader.specs.declared.Reader.{Reader}
 use Rattle.reader.specs.Reading.{opened}

@@ -5,12 +5,11 @@ use mathlib.Core.List.{List}
 use lib.ListN.{length}
 use denote.Ref.{ptr, now}
 use native.Mathlib.Omega.{arith}
-use Rattle.frame.specs.declared.header.SubFrame.{SubFrame}
-use Rattle.frame.specs.declared.header.Header.{Header}
-use Rattle.frame.specs.declared.header.Header.the-variants as header
-use Rattle.frame.specs.Header.{headerAt}
-use Rattle.frame.specs.Opening.{endOf}
-use Rattle.frame.proofs.HeaderInverse as inverse
+use Rattle.header.specs.declared.SubFrame.{SubFrame}
+use Rattle.header.specs.declared.Header.{Header}
+use Rattle.header.specs.declared.Header.the-variants as header
+use Rattle.header.specs.Header.{headerAt, endOf}
+use Rattle.header.proofs.HeaderInverse as inverse
 use Rattle.reader.specs.declared.Found.{Found}
 use Rattle.reader.specs.declared.Found.the-variants.{Sub, NoMore}
 use Rattle.reader.specs.declared.Place.{Place}

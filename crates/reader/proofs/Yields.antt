@@ -10,13 +10,13 @@ use lib.ListN.{length, replicate, drop, length-drop}
 use denote.Ref.{RefT, now}
 use Rattle.octets.proofs.Order.{lt-or-le, eq-or-ne, clash}
 use Rattle.refusal.specs.Numbers.{sound}
-use Rattle.frame.specs.declared.header.SubFrame.{SubFrame}
-use Rattle.frame.specs.declared.header.Header.{Header}
-use Rattle.frame.specs.declared.header.Header.the-variants as header
-use Rattle.frame.specs.Header.{size, octet1, octet1a, octet1b, headerAt}
-use Rattle.frame.specs.Opening.{Opening, stopped, before, endOf, endOfHeader, onwards, scan, scanned, opening}
-use Rattle.frame.proofs.HeaderCases as read
-use Rattle.frame.proofs.HeaderInverse as inverse
+use Rattle.header.specs.declared.SubFrame.{SubFrame}
+use Rattle.header.specs.declared.Header.{Header}
+use Rattle.header.specs.declared.Header.the-variants as header
+use Rattle.header.specs.Header.{size, octet1, octet1a, octet1b, headerAt, endOf}
+use Rattle.frame.specs.Opening.{Opening, stopped, before, endOfHeader, onwards, scan, scanned, opening}
+use Rattle.header.proofs.HeaderCases as read
+use Rattle.header.proofs.HeaderInverse as inverse
 use Rattle.frame.proofs.OpeningTurns as turns
 use Rattle.reader.specs.declared.Found.{Found}
 use Rattle.reader.specs.declared.Found.the-variants.{Sub, NoMore}

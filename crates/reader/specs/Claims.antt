@@ -1,13 +1,14 @@
 -- What a frame reader yields. `opened`, `found` and `stepped` are what `open` and `step` answer by their contracts; `opening` is
--- what `frame::opening::open` answers by its contract. Proved in proofs/Yields.antt, proofs/Parts.antt and proofs/OneAnswer.antt.
+-- what `frame::open` answers by its contract. Proved in proofs/Yields.antt, proofs/Parts.antt and proofs/OneAnswer.antt.
 use Prim.Native.Nat.{ℕ, zero, suc, _+_, _≤_}
 use mathlib.Core.Path.{_≡_}
 use mathlib.Core.List.{List, [], _∷_, _++_, map}
 use lib.ListN.{length, replicate, take, drop}
 use denote.Ref.{RefT, ptr, now}
 use Rattle.refusal.specs.Numbers.{sound}
-use Rattle.frame.specs.declared.header.SubFrame.{SubFrame}
-use Rattle.frame.specs.Opening.{opening, endOf}
+use Rattle.header.specs.declared.SubFrame.{SubFrame}
+use Rattle.header.specs.Header.{endOf}
+use Rattle.frame.specs.Opening.{opening}
 use Rattle.reader.specs.declared.Found.{Found}
 use Rattle.reader.specs.declared.Found.the-variants.{Sub, NoMore}
 use Rattle.reader.specs.declared.Reader.{Reader}

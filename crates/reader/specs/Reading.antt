@@ -7,11 +7,11 @@ use lib.Dec.{ltb, eqb}
 use lib.ListN.{length, take, drop}
 use denote.Ref.{RefT, now}
 use Rattle.refusal.specs.Numbers.{sound}
-use Rattle.frame.specs.declared.header.SubFrame.{SubFrame}
-use Rattle.frame.specs.declared.header.Header.{Header}
-use Rattle.frame.specs.declared.header.Header.the-variants as header
-use Rattle.frame.specs.Header.{headerAt}
-use Rattle.frame.specs.Opening.{opening, endOf}
+use Rattle.header.specs.declared.SubFrame.{SubFrame}
+use Rattle.header.specs.declared.Header.{Header}
+use Rattle.header.specs.declared.Header.the-variants as header
+use Rattle.header.specs.Header.{headerAt, endOf}
+use Rattle.frame.specs.Opening.{opening}
 use Rattle.reader.specs.declared.Found.{Found}
 use Rattle.reader.specs.declared.Found.the-variants.{Sub, NoMore}
 use Rattle.reader.specs.declared.Place.{Place}

@@ -1,8 +1,8 @@
 // The frame reader (document 01, "A frame reader then holds the lent frame and its place in it, and yields sub-frames in
 // order, payloads as parts of the frame"). The functions over `Reader` are thin and proved by hand; the work is done by
 // `start`, `step_from` and `part`, on the slice and plain values.
-use frame::header::Header;
-use frame::header::SubFrame;
+use header::Header;
+use header::SubFrame;
 ghost use mathlib.Core.Path.{_≡_};
 ghost use denote.Ref.{ptr};
 ghost use Rattle.reader.specs.Reading.{startOf, nextOf, opened, found, stepped, payloadOf, payloadAt, nthOf};
@@ -30,7 +30,7 @@ pub struct Reader<'a> {
 fn start(frame: &[u8]) -> usize
     ensures { λ r. ⌜ r ≡ startOf (now (frame .entry)) ⌝ }
 {
-    let checked = frame::opening::check(frame);
+    let checked = frame::check(frame);
     if checked.number == refusal::SOUND {
         return 0;
     }
@@ -42,7 +42,7 @@ fn start(frame: &[u8]) -> usize
 pub fn step_from(frame: &[u8], at: usize) -> Place
     ensures { λ r. ⌜ r ≡ nextOf (now (frame .entry)) at ⌝ }
 {
-    match frame::header::header_at(frame, at) {
+    match header::header_at(frame, at) {
         Header::Sub(sub) => Place {
             at: sub.start + sub.len,
             found: Found::Sub(sub),
@@ -76,7 +76,7 @@ pub fn part<'a>(frame: &'a [u8], sub: SubFrame) -> &'a [u8]
 }
 
 // Opens a frame. A reader of a refused frame stands at its end, and yields nothing: the number and the place of the refusal are
-// the answer of `frame::opening::check`.
+// the answer of `frame::check`.
 pub fn open<'a>(frame: &'a [u8]) -> Reader<'a>
     ensures { λ r. ⌜ r ≡ opened (frame .entry) ⌝ }
 {

@@ -4,7 +4,7 @@ use mathlib.Core.Path.{_≡_, sym, ap, _∙_}
 use mathlib.Core.List.{List}
 use lib.ListN.{length, take}
 use Rattle.octets.specs.Room.{written}
-use Rattle.frame.specs.Joining.{joined}
+use Rattle.joining.specs.Joining.{joined}
 use Rattle.writer.specs.declared.place.Writer.{Writer}
 use Rattle.roundtrip.specs.Demand2.{took, AnyRoom}
 use Rattle.roundtrip.proofs.RoundTrip.{frame-is, legal-is-made}

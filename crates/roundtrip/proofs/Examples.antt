@@ -7,11 +7,11 @@ use native.Mathlib.Omega.{arith}
 use lib.ListN.{replicate}
 use Rattle.octets.specs.Room.{written}
 use Rattle.record.specs.Record.{packed, meaning, foundAt, syntaxAt}
-use Rattle.frame.specs.Joining.{joined, shortestHeader}
-use Rattle.frame.specs.Joining as joining
+use Rattle.joining.specs.Joining.{joined, shortestHeader}
+use Rattle.joining.specs.Joining as joining
 use Rattle.framing.specs.Claims.{Each, Fits}
 use Rattle.voice.specs.Voice.{voiceMade, bodyOctets, blockOctets, frontOf}
-use Rattle.voice.specs.Sid.{sidMade}
+use Rattle.sid.specs.Sid.{sidMade}
 use Rattle.data.specs.Data.{dataMade}
 use Rattle.fax.specs.Fax.{faxMade, bodySized}
 use Rattle.digits.specs.Layout.{digitsMade}

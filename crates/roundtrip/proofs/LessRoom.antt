@@ -12,7 +12,7 @@ use Rattle.octets.specs.Room.{written}
 use Rattle.octets.proofs.Order.{lt-or-le}
 use Rattle.octets.proofs.Writes.{length-written}
 use Rattle.record.specs.Record.{foundAt}
-use Rattle.frame.specs.Joining.{joined}
+use Rattle.joining.specs.Joining.{joined}
 use Rattle.writer.specs.declared.place.Writer.{Writer}
 use Rattle.writer.specs.Writer.{freshWriter, Writing, writes, refuses, writing, leftWriting}
 use Rattle.writer.proofs.WriteBack.{too-small, large-enough}

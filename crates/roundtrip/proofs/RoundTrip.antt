@@ -11,8 +11,8 @@ use Rattle.octets.specs.Room.{written}
 use Rattle.octets.proofs.Order.{clash}
 use Rattle.record.specs.Record.{foundAt}
 use Rattle.frame.specs.Opening.{opening, mostOctets, mostSubFrames}
-use Rattle.frame.specs.Joining.{joined}
-use Rattle.frame.specs.Joining as joining
+use Rattle.joining.specs.Joining.{joined}
+use Rattle.joining.specs.Joining as joining
 use Rattle.framing.specs.Claims.{Fits, Sound, contentOf, list}
 use Rattle.framing.proofs.Same.{opens-to-the-same}
 use Rattle.framing.proofs.Shortest.{one-shortest}

@@ -11,11 +11,11 @@ use Rattle.record.specs.declared.syntax.Record.{Record}
 use Rattle.record.specs.declared.syntax.Syntax.{Syntax}
 use Rattle.record.specs.declared.table.Found.{Found}
 use Rattle.record.specs.Record.{foundAt}
-use Rattle.frame.specs.declared.header.SubFrame.{SubFrame}
-use Rattle.frame.specs.declared.opening.Opened.{Opened}
+use Rattle.header.specs.declared.SubFrame.{SubFrame}
+use Rattle.frame.specs.declared.Opened.{Opened}
 use Rattle.frame.specs.Opening.{opening, answer}
 use Rattle.voice.specs.Voice.{voiceRead}
-use Rattle.voice.specs.Sid.{sidRead}
+use Rattle.sid.specs.Sid.{sidRead}
 use Rattle.data.specs.Data.{dataRead}
 use Rattle.fax.specs.Fax.{faxRead}
 use Rattle.digits.specs.Layout.{digitsRead}
@@ -46,22 +46,22 @@ use Rattle.writer.proofs.signalled.write_fax.Kinds as fax-kinds
 use Rattle.writer.proofs.signalled.write_fax.Reads as fax-reads
 use Rattle.writer.proofs.signalled.write_sid.Kinds as sid-kinds
 use Rattle.writer.proofs.signalled.write_sid.Reads as sid-reads
-use Rattle.frame.proofs.opening.open.Kinds as open-kinds
-use Rattle.frame.proofs.opening.open.Reads as open-reads
+use Rattle.frame.proofs.open.Kinds as open-kinds
+use Rattle.frame.proofs.open.Reads as open-reads
 use Rattle.record.proofs.table.record_of.Kinds as record-of-kinds
 use Rattle.record.proofs.table.record_of.Reads as record-of-reads
 use Rattle.payload.proofs.layout.layout_of.Kinds as layout-of-kinds
 use Rattle.payload.proofs.layout.layout_of.Reads as layout-of-reads
-use Rattle.voice.proofs.voice.read_voice.Kinds as read-voice-kinds
-use Rattle.voice.proofs.voice.read_voice.Reads as read-voice-reads
+use Rattle.voice.proofs.read_voice.Kinds as read-voice-kinds
+use Rattle.voice.proofs.read_voice.Reads as read-voice-reads
 use Rattle.digits.proofs.layout.read_digits.Kinds as read-digits-kinds
 use Rattle.digits.proofs.layout.read_digits.Reads as read-digits-reads
 use Rattle.signalling.proofs.layout.read_signalling.Kinds as read-signalling-kinds
 use Rattle.signalling.proofs.layout.read_signalling.Reads as read-signalling-reads
 use Rattle.fax.proofs.read_fax.Kinds as read-fax-kinds
 use Rattle.fax.proofs.read_fax.Reads as read-fax-reads
-use Rattle.voice.proofs.sid.read_sid.Kinds as read-sid-kinds
-use Rattle.voice.proofs.sid.read_sid.Reads as read-sid-reads
+use Rattle.sid.proofs.read_sid.Kinds as read-sid-kinds
+use Rattle.sid.proofs.read_sid.Reads as read-sid-reads
 use Rattle.data.proofs.read_data.Kinds as read-data-kinds
 use Rattle.data.proofs.read_data.Reads as read-data-reads
 

@@ -3,7 +3,7 @@
 --
 -- It holds of the code by the contracts; Tied.antt says so, and it is proved: `writer::place::fresh` is `freshWriter`; the six
 -- `write_` functions answer and leave what `writing` and `leftWriting` give, and results that meet their contracts, call after
--- call, are `fed`; `frame::opening::open` answers `answer (opening ..)`, `record::table::record_of` `foundAt`,
+-- call, are `fed`; `frame::open` answers `answer (opening ..)`, `record::table::record_of` `foundAt`,
 -- `payload::layout::layout_of` `layoutOf`, each `read_` function its part of `readAs`, and what meets their contracts over a frame
 -- is `gotten`. Proved in proofs/.
 use Prim.Native.Nat.{ℕ, _<_, _≤_}
@@ -16,10 +16,10 @@ use Rattle.octets.specs.Octets.{Octets}
 use Rattle.octets.specs.Made.{made}
 use Rattle.octets.specs.Room.{written}
 use Rattle.record.specs.Record.{foundAt}
-use Rattle.frame.specs.declared.header.SubFrame.{SubFrame}
+use Rattle.header.specs.declared.SubFrame.{SubFrame}
 use Rattle.frame.specs.Opening.{opening}
-use Rattle.frame.specs.Joining.{joined}
-use Rattle.frame.specs.Joining as joining
+use Rattle.joining.specs.Joining.{joined}
+use Rattle.joining.specs.Joining as joining
 use Rattle.framing.specs.Claims.{Fits, Sound, list}
 use Rattle.payload.specs.declared.layout.TypeFor.the-variants.{Typed}
 use Rattle.payload.specs.Layout.{typeFor}

@@ -7,7 +7,7 @@ use lib.ListN.{replicate}
 use lib.IntN.{pos}
 use Rattle.record.specs.declared.syntax.Syntax.the-variants.{Acelp, Data}
 use Rattle.record.specs.Record.{packed}
-use Rattle.voice.specs.declared.sid.Sid.the-variants.{Plain}
+use Rattle.sid.specs.declared.Sid.the-variants.{Plain}
 use Rattle.fax.specs.declared.Stamp.the-variants.{Stamped}
 use Rattle.fax.specs.declared.Command.the-variants.{Off}
 use Rattle.payload.specs.Content.{speech, dialled, seized, faxed, silent, fragment}

@@ -4,10 +4,10 @@ use mathlib.Core.Path.{_≡_, sym, subst, _∙_}
 use mathlib.Core.List.{List, [], _∷_}
 use native.Mathlib.Omega.{arith}
 use lib.ListN.{length}
-use Rattle.frame.specs.declared.header.SubFrame.{SubFrame}
-use Rattle.frame.specs.Header.{subAt}
-use Rattle.frame.specs.Opening.{endOf, opening}
-use Rattle.frame.proofs.HeaderInverse.{ends-within, sub-at-tells}
+use Rattle.header.specs.declared.SubFrame.{SubFrame}
+use Rattle.header.specs.Header.{subAt, endOf}
+use Rattle.frame.specs.Opening.{opening}
+use Rattle.header.proofs.HeaderInverse.{ends-within, sub-at-tells}
 use Rattle.frame.proofs.OpeningTurns.{Ahead, opens-ahead}
 
 pub record Left (s : List ℕ) (at left : ℕ) : Type 0 where

@@ -7,22 +7,22 @@ use digits::layout::DigitsRead;
 use fax::Command;
 use fax::FaxRead;
 use fax::Stamp;
-use frame::header::SubFrame;
+use header::SubFrame;
 use payload::layout::Layout;
 use record::syntax::Record;
 use record::syntax::Syntax;
-use voice::sid::Sid;
-use voice::sid::SidRead;
-use voice::voice::VoiceRead;
+use sid::Sid;
+use sid::SidRead;
+use voice::VoiceRead;
 ghost use Prim.Native.Nat.{_≤_};
 ghost use lib.ListN.{length};
-ghost use Rattle.frame.specs.Opening.{endOf};
+ghost use Rattle.header.specs.Header.{endOf};
 
 const CARD: u8 = 5;
 
 // The frame check.
 fn check(acc: u64, frame: &[u8]) -> u64 {
-    octet(acc, frame::opening::check(frame).number)
+    octet(acc, frame::check(frame).number)
 }
 
 // What the voice card is handed: the source, the octets, the first of them.
@@ -38,7 +38,7 @@ fn handed(acc: u64, octets: &[u8]) -> u64 {
 
 // A frame checked, then each header and payload read.
 fn read(acc: u64, frame: &[u8], table: &[u16; 256]) -> u64 {
-    let checked = frame::opening::check(frame);
+    let checked = frame::check(frame);
     let number = checked.number;
     if number != refusal::SOUND {
         return fold(octet(acc, number), checked.at as u64);
@@ -47,7 +47,7 @@ fn read(acc: u64, frame: &[u8], table: &[u16; 256]) -> u64 {
     let mut at: usize = 0;
     let mut left = checked.count;
     while 0 < left {
-        let sub = frame::header::sub_at(frame, at);
+        let sub = header::sub_at(frame, at);
         folded = read_sub(folded, frame, table, sub);
         at = sub.start + sub.len;
         left -= 1;
@@ -75,7 +75,7 @@ fn read_sub(acc: u64, frame: &[u8], table: &[u16; 256], sub: SubFrame) -> u64
 }
 
 fn read_voice(acc: u64, rec: Record, payload: &[u8]) -> u64 {
-    match voice::voice::read_voice(rec, payload) {
+    match voice::read_voice(rec, payload) {
         VoiceRead::Voice {
             sequence,
             coding,
@@ -138,7 +138,7 @@ fn command_number(command: Command) -> u64 {
 }
 
 fn read_sid(acc: u64, syntax: Syntax, payload: &[u8]) -> u64 {
-    match voice::sid::read_sid(syntax, payload) {
+    match sid::read_sid(syntax, payload) {
         SidRead::Silence(sid) => match sid {
             Sid::Noise {
                 sequence,

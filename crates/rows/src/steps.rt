@@ -3,9 +3,9 @@ use crate::fold::flag;
 use crate::fold::fold;
 use crate::fold::octet;
 use crate::fold::window;
-use dialling::sender::Sending;
+use dialling::Sending;
 use digits::layout::Digits;
-use seizing::sender::Sent;
+use seizing::Sent;
 use signalling::layout::Signalling;
 
 const NOTHING: u64 = 300;
@@ -36,8 +36,8 @@ pub fn level_in(octet: u8) -> i8 {
 }
 
 // The entry of four octets.
-fn digit_entry(item: &[u8]) -> dialling::sender::Entry {
-    dialling::sender::Entry {
+fn digit_entry(item: &[u8]) -> dialling::Entry {
+    dialling::Entry {
         on: octets::octet(item, 0) % 2 == 1,
         code: octets::octet(item, 1),
         edge: octets::octet(item, 2),
@@ -53,7 +53,7 @@ fn sending(acc: u64, answer: Sending) -> u64 {
     }
 }
 
-fn received(acc: u64, received: dialling::receiver::Received) -> u64 {
+fn received(acc: u64, received: dialled::Received) -> u64 {
     let fill = received.fill;
     let periods = received.periods;
     let said = octet(octet(acc, received.number), received.fills);
@@ -62,10 +62,10 @@ fn received(acc: u64, received: dialling::receiver::Received) -> u64 {
 }
 
 // The entry of eleven octets.
-fn signalling_entry(item: &[u8]) -> seizing::sender::Entry {
+fn signalling_entry(item: &[u8]) -> seizing::Entry {
     let mut samples = [0u8; 10];
     octets::put_octets(&mut samples, 0, crate::items::part(item, 1, 10));
-    seizing::sender::Entry {
+    seizing::Entry {
         alarm: octets::octet(item, 0) % 2 == 1,
         samples,
     }
@@ -82,7 +82,7 @@ fn sent(acc: u64, sent: Sent) -> u64 {
     fold(acc, NOTHING)
 }
 
-fn seized(acc: u64, received: seizing::receiver::Received) -> u64 {
+fn seized(acc: u64, received: seized::Received) -> u64 {
     let periods = received.periods;
     let receiver = received.receiver;
     let said = octet(octet(acc, received.number), received.fills);
@@ -93,13 +93,13 @@ fn seized(acc: u64, received: seizing::receiver::Received) -> u64 {
 
 // The items as entries to one digit sender.
 pub fn send_digits(input: &[u8], works: u64, first: usize) -> u64 {
-    let mut sender = dialling::sender::fresh();
+    let mut sender = dialling::fresh();
     let mut acc = crate::fold::FIRST;
     let mut walk = crate::items::begin(works, first);
     while 0 < walk.left {
         walk = crate::items::next(input, walk, first);
         let octets = crate::items::octets_of(input, walk);
-        let taken = dialling::sender::send(sender, digit_entry(octets));
+        let taken = dialling::send(sender, digit_entry(octets));
         sender = taken.sender;
         let answer = taken.answer;
         acc = sending(acc, answer);
@@ -109,13 +109,13 @@ pub fn send_digits(input: &[u8], works: u64, first: usize) -> u64 {
 
 // The items as payloads to one digit receiver.
 pub fn receive_digits(input: &[u8], works: u64, first: usize) -> u64 {
-    let mut receiver = dialling::receiver::fresh();
+    let mut receiver = dialled::fresh();
     let mut acc = crate::fold::FIRST;
     let mut walk = crate::items::begin(works, first);
     while 0 < walk.left {
         walk = crate::items::next(input, walk, first);
         let octets = crate::items::octets_of(input, walk);
-        let answer = dialling::receiver::receive(receiver, octets);
+        let answer = dialled::receive(receiver, octets);
         receiver = answer.receiver;
         acc = received(acc, answer);
     }
@@ -124,14 +124,14 @@ pub fn receive_digits(input: &[u8], works: u64, first: usize) -> u64 {
 
 // The items as entries to one signalling sender.
 pub fn send_signalling(input: &[u8], works: u64, first: usize) -> u64 {
-    let started = seizing::sender::start(0);
+    let started = seizing::start(0);
     let mut sender = started.sender;
     let mut acc = crate::fold::FIRST;
     let mut walk = crate::items::begin(works, first);
     while 0 < walk.left {
         walk = crate::items::next(input, walk, first);
         let octets = crate::items::octets_of(input, walk);
-        let answer = seizing::sender::send(sender, signalling_entry(octets));
+        let answer = seizing::send(sender, signalling_entry(octets));
         sender = answer.sender;
         acc = sent(acc, answer);
     }
@@ -140,13 +140,13 @@ pub fn send_signalling(input: &[u8], works: u64, first: usize) -> u64 {
 
 // The items as payloads to one signalling receiver.
 pub fn receive_signalling(input: &[u8], works: u64, first: usize) -> u64 {
-    let mut receiver = seizing::receiver::fresh();
+    let mut receiver = seized::fresh();
     let mut acc = crate::fold::FIRST;
     let mut walk = crate::items::begin(works, first);
     while 0 < walk.left {
         walk = crate::items::next(input, walk, first);
         let octets = crate::items::octets_of(input, walk);
-        let answer = seizing::receiver::receive(receiver, octets);
+        let answer = seized::receive(receiver, octets);
         receiver = answer.receiver;
         acc = seized(acc, answer);
     }

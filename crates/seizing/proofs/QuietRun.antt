@@ -6,11 +6,11 @@ use mathlib.Core.Logic.{_⊎_, inl, inr, ⊎-elim}
 use native.Mathlib.Omega.{arith}
 use borrow.Author.Tests.{lt-ltb, le-ltb, le-leb, lt-leb, eq-eqb, ne-eqb}
 use Rattle.octets.proofs.Order.{lt-or-le}
-use Rattle.seizing.specs.declared.sender.Entry.{Entry}
-use Rattle.seizing.specs.declared.sender.Sender.{Sender}
-use Rattle.seizing.specs.declared.sender.Sent.{Sent}
-use Rattle.seizing.specs.declared.sender.Decision.{Decision}
-use Rattle.seizing.specs.declared.sender.Decision.the-variants.{Sends, Repeats, Rests}
+use Rattle.seizing.specs.declared.Entry.{Entry}
+use Rattle.seizing.specs.declared.Sender.{Sender}
+use Rattle.seizing.specs.declared.Sent.{Sent}
+use Rattle.seizing.specs.declared.Decision.{Decision}
+use Rattle.seizing.specs.declared.Decision.the-variants.{Sends, Repeats, Rests}
 use Rattle.signalling.specs.Layout.{allAllowed}
 use Rattle.seizing.specs.Sender.{isQuiet, decision, runAfter, decisionOf, period, sent}
 use Rattle.seizing.specs.Claims.{before, inQuietRun, QuietRun}

@@ -12,11 +12,11 @@ use Rattle.octets.proofs.Order.{lt-or-le, clash, either}
 use Rattle.octets.specs.Made.{made}
 use Rattle.refusal.specs.Numbers.{sound}
 use Rattle.signalling.specs.declared.layout.Signalling.{Signalling}
-use Rattle.seizing.specs.declared.sender.Entry.{Entry}
-use Rattle.seizing.specs.declared.sender.Sender.{Sender}
-use Rattle.seizing.specs.declared.sender.Sent.{Sent}
-use Rattle.seizing.specs.declared.sender.Decision.{Decision}
-use Rattle.seizing.specs.declared.sender.Decision.the-variants.{Sends, Repeats, Rests}
+use Rattle.seizing.specs.declared.Entry.{Entry}
+use Rattle.seizing.specs.declared.Sender.{Sender}
+use Rattle.seizing.specs.declared.Sent.{Sent}
+use Rattle.seizing.specs.declared.Decision.{Decision}
+use Rattle.seizing.specs.declared.Decision.the-variants.{Sends, Repeats, Rests}
 use Rattle.signalling.specs.Layout.{allowed, allAllowed, firstOctet, pairs, signallingRead, signallingMade}
 use Rattle.seizing.specs.Sender.{senderFrom, windowsAfter, decisionOf, afterSent, afterUnsent, payloadOf, period, sent}
 use Rattle.seizing.specs.Claims.{Proper, SenderStarts, SenderStays, SentReadsBack}

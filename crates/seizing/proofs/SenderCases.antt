@@ -7,10 +7,10 @@ use lib.ListN.{getD}
 use Rattle.refusal.specs.Numbers.{sound, valueOutOfRange}
 use Rattle.counts.specs.Round.{onward}
 use Rattle.counts.specs.declared.SignallingCount.{SignallingCount}
-use Rattle.seizing.specs.declared.sender.Entry.{Entry}
-use Rattle.seizing.specs.declared.sender.Sender.{Sender}
-use Rattle.seizing.specs.declared.sender.Decision.{Decision}
-use Rattle.seizing.specs.declared.sender.Decision.the-variants.{Sends, Repeats, Rests}
+use Rattle.seizing.specs.declared.Entry.{Entry}
+use Rattle.seizing.specs.declared.Sender.{Sender}
+use Rattle.seizing.specs.declared.Decision.{Decision}
+use Rattle.seizing.specs.declared.Decision.the-variants.{Sends, Repeats, Rests}
 use Rattle.signalling.specs.Layout.{allAllowed}
 use Rattle.seizing.specs.Sender.{isQuiet, decision, runAfter, windowsAfter, decisionOf, goingOut, nothingDue, period, sent}
 

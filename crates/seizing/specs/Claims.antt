@@ -8,10 +8,10 @@ use lib.ListN.{length}
 use Rattle.refusal.specs.Numbers.{sound}
 use Rattle.octets.specs.Made.{made}
 use Rattle.signalling.specs.Layout.{allowed, allAllowed, signallingRead, signallingMade}
-use Rattle.seizing.specs.declared.sender.Entry.{Entry}
-use Rattle.seizing.specs.declared.sender.Sender.{Sender}
-use Rattle.seizing.specs.declared.sender.Decision.{Decision}
-use Rattle.seizing.specs.declared.sender.Decision.the-variants.{Sends, Repeats, Rests}
+use Rattle.seizing.specs.declared.Entry.{Entry}
+use Rattle.seizing.specs.declared.Sender.{Sender}
+use Rattle.seizing.specs.declared.Decision.{Decision}
+use Rattle.seizing.specs.declared.Decision.the-variants.{Sends, Repeats, Rests}
 use Rattle.seizing.specs.Sender.{started, isQuiet, decisionOf, sent}
 
 -- the state before the n-th entry, from 0, of a run of entries

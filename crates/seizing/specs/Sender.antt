@@ -7,12 +7,12 @@ use lib.ListN.{getD, drop, replicate}
 use Rattle.refusal.specs.Numbers.{sound, valueOutOfRange}
 use Rattle.counts.specs.Round.{onward}
 use Rattle.signalling.specs.declared.layout.Signalling.{Signalling}
-use Rattle.seizing.specs.declared.sender.Entry.{Entry}
-use Rattle.seizing.specs.declared.sender.Sender.{Sender}
-use Rattle.seizing.specs.declared.sender.Started.{Started}
-use Rattle.seizing.specs.declared.sender.Sent.{Sent}
-use Rattle.seizing.specs.declared.sender.Decision.{Decision}
-use Rattle.seizing.specs.declared.sender.Decision.the-variants.{Sends, Repeats, Rests}
+use Rattle.seizing.specs.declared.Entry.{Entry}
+use Rattle.seizing.specs.declared.Sender.{Sender}
+use Rattle.seizing.specs.declared.Started.{Started}
+use Rattle.seizing.specs.declared.Sent.{Sent}
+use Rattle.seizing.specs.declared.Decision.{Decision}
+use Rattle.seizing.specs.declared.Decision.the-variants.{Sends, Repeats, Rests}
 use Rattle.signalling.specs.Layout.{allowed, nothing, allAllowed}
 
 -- "the start state standing before the first". The first number is to be 0, so the one before it is 127.

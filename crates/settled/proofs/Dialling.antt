@@ -1,16 +1,16 @@
 -- One answer only: the public functions of `dialling`.
 use mathlib.Core.Path.{refl, sym, _∙_}
 use Rattle.settled.specs.Settled.{OneAnswer, nothing}
-use Rattle.dialling.proofs.receiver.fresh.Kinds as receiver-fresh-kinds
-use Rattle.dialling.proofs.receiver.fresh.Reads as receiver-fresh-reads
-use Rattle.dialling.proofs.receiver.receive.Kinds as receiver-receive-kinds
-use Rattle.dialling.proofs.receiver.receive.Reads as receiver-receive-reads
-use Rattle.dialling.proofs.receiver.hear_voice.Kinds as receiver-hear-voice-kinds
-use Rattle.dialling.proofs.receiver.hear_voice.Reads as receiver-hear-voice-reads
-use Rattle.dialling.proofs.sender.fresh.Kinds as sender-fresh-kinds
-use Rattle.dialling.proofs.sender.fresh.Reads as sender-fresh-reads
-use Rattle.dialling.proofs.sender.send.Kinds as sender-send-kinds
-use Rattle.dialling.proofs.sender.send.Reads as sender-send-reads
+use Rattle.dialled.proofs.fresh.Kinds as receiver-fresh-kinds
+use Rattle.dialled.proofs.fresh.Reads as receiver-fresh-reads
+use Rattle.dialled.proofs.receive.Kinds as receiver-receive-kinds
+use Rattle.dialled.proofs.receive.Reads as receiver-receive-reads
+use Rattle.dialled.proofs.hear_voice.Kinds as receiver-hear-voice-kinds
+use Rattle.dialled.proofs.hear_voice.Reads as receiver-hear-voice-reads
+use Rattle.dialling.proofs.fresh.Kinds as sender-fresh-kinds
+use Rattle.dialling.proofs.fresh.Reads as sender-fresh-reads
+use Rattle.dialling.proofs.send.Kinds as sender-send-kinds
+use Rattle.dialling.proofs.send.Reads as sender-send-reads
 
 pub receiver-fresh : OneAnswer 0 receiver-fresh-kinds.ps receiver-fresh-kinds.r nothing receiver-fresh-reads.Post
 receiver-fresh κs a x y s t p q = (p ∙ sym q, refl)

@@ -2,23 +2,23 @@
 use mathlib.Core.Path.{_≡_, refl, sym, _∙_}
 use denote.Ref.{now}
 use Rattle.settled.specs.Settled.{OneAnswer, nothing}
-use Rattle.frame.specs.declared.opening.Checked.{Checked}
-use Rattle.frame.proofs.header.header_at.Kinds as header-header-at-kinds
-use Rattle.frame.proofs.header.header_at.Reads as header-header-at-reads
-use Rattle.frame.proofs.header.sub_at.Kinds as header-sub-at-kinds
-use Rattle.frame.proofs.header.sub_at.Reads as header-sub-at-reads
-use Rattle.frame.proofs.joining.header_size.Kinds as joining-header-size-kinds
-use Rattle.frame.proofs.joining.header_size.Reads as joining-header-size-reads
-use Rattle.frame.proofs.joining.put_header.Kinds as joining-put-header-kinds
-use Rattle.frame.proofs.joining.put_header.Reads as joining-put-header-reads
-use Rattle.frame.proofs.opening.field_fits.Kinds as opening-field-fits-kinds
-use Rattle.frame.proofs.opening.field_fits.Reads as opening-field-fits-reads
-use Rattle.frame.proofs.opening.scan_from.Kinds as opening-scan-from-kinds
-use Rattle.frame.proofs.opening.scan_from.Reads as opening-scan-from-reads
-use Rattle.frame.proofs.opening.check.Kinds as opening-check-kinds
-use Rattle.frame.proofs.opening.check.Reads as opening-check-reads
-use Rattle.frame.proofs.opening.open.Kinds as opening-open-kinds
-use Rattle.frame.proofs.opening.open.Reads as opening-open-reads
+use Rattle.frame.specs.declared.Checked.{Checked}
+use Rattle.header.proofs.header_at.Kinds as header-header-at-kinds
+use Rattle.header.proofs.header_at.Reads as header-header-at-reads
+use Rattle.header.proofs.sub_at.Kinds as header-sub-at-kinds
+use Rattle.header.proofs.sub_at.Reads as header-sub-at-reads
+use Rattle.joining.proofs.header_size.Kinds as joining-header-size-kinds
+use Rattle.joining.proofs.header_size.Reads as joining-header-size-reads
+use Rattle.joining.proofs.put_header.Kinds as joining-put-header-kinds
+use Rattle.joining.proofs.put_header.Reads as joining-put-header-reads
+use Rattle.frame.proofs.field_fits.Kinds as opening-field-fits-kinds
+use Rattle.frame.proofs.field_fits.Reads as opening-field-fits-reads
+use Rattle.frame.proofs.scan_from.Kinds as opening-scan-from-kinds
+use Rattle.frame.proofs.scan_from.Reads as opening-scan-from-reads
+use Rattle.frame.proofs.check.Kinds as opening-check-kinds
+use Rattle.frame.proofs.check.Reads as opening-check-reads
+use Rattle.frame.proofs.open.Kinds as opening-open-kinds
+use Rattle.frame.proofs.open.Reads as opening-open-reads
 
 -- three numbers make a whole answer of `check`
 same : (x y : Checked) → x .number ≡ y .number → x .at ≡ y .at → x .count ≡ y .count → x ≡ y

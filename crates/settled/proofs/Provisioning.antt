@@ -2,8 +2,8 @@
 use mathlib.Core.Path.{refl, sym, _∙_}
 use denote.Ref.{now}
 use Rattle.settled.specs.Settled.{OneAnswer, nothing}
-use Rattle.provisioning.proofs.value.number_of.Kinds as value-number-of-kinds
-use Rattle.provisioning.proofs.value.number_of.Reads as value-number-of-reads
+use Rattle.value.proofs.number_of.Kinds as value-number-of-kinds
+use Rattle.value.proofs.number_of.Reads as value-number-of-reads
 use Rattle.provisioning.proofs.text.read_text.Kinds as text-read-text-kinds
 use Rattle.provisioning.proofs.text.read_text.Reads as text-read-text-reads
 

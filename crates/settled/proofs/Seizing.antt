@@ -1,14 +1,14 @@
 -- One answer only: the public functions of `seizing`.
 use mathlib.Core.Path.{refl, sym, _∙_}
 use Rattle.settled.specs.Settled.{OneAnswer, nothing}
-use Rattle.seizing.proofs.receiver.fresh.Kinds as receiver-fresh-kinds
-use Rattle.seizing.proofs.receiver.fresh.Reads as receiver-fresh-reads
-use Rattle.seizing.proofs.receiver.receive.Kinds as receiver-receive-kinds
-use Rattle.seizing.proofs.receiver.receive.Reads as receiver-receive-reads
-use Rattle.seizing.proofs.sender.start.Kinds as sender-start-kinds
-use Rattle.seizing.proofs.sender.start.Reads as sender-start-reads
-use Rattle.seizing.proofs.sender.send.Kinds as sender-send-kinds
-use Rattle.seizing.proofs.sender.send.Reads as sender-send-reads
+use Rattle.seized.proofs.fresh.Kinds as receiver-fresh-kinds
+use Rattle.seized.proofs.fresh.Reads as receiver-fresh-reads
+use Rattle.seized.proofs.receive.Kinds as receiver-receive-kinds
+use Rattle.seized.proofs.receive.Reads as receiver-receive-reads
+use Rattle.seizing.proofs.start.Kinds as sender-start-kinds
+use Rattle.seizing.proofs.start.Reads as sender-start-reads
+use Rattle.seizing.proofs.send.Kinds as sender-send-kinds
+use Rattle.seizing.proofs.send.Reads as sender-send-reads
 
 pub receiver-fresh : OneAnswer 0 receiver-fresh-kinds.ps receiver-fresh-kinds.r nothing receiver-fresh-reads.Post
 receiver-fresh κs a x y s t p q = (p ∙ sym q, refl)

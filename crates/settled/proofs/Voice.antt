@@ -2,20 +2,20 @@
 use mathlib.Core.Path.{refl, sym, _∙_}
 use denote.Ref.{now}
 use Rattle.settled.specs.Settled.{OneAnswer, nothing}
-use Rattle.voice.proofs.sid.read_sid.Kinds as sid-read-sid-kinds
-use Rattle.voice.proofs.sid.read_sid.Reads as sid-read-sid-reads
-use Rattle.voice.proofs.sid.fit_sid.Kinds as sid-fit-sid-kinds
-use Rattle.voice.proofs.sid.fit_sid.Reads as sid-fit-sid-reads
-use Rattle.voice.proofs.sid.put_sid.Kinds as sid-put-sid-kinds
-use Rattle.voice.proofs.sid.put_sid.Reads as sid-put-sid-reads
-use Rattle.voice.proofs.voice.coding_count.Kinds as voice-coding-count-kinds
-use Rattle.voice.proofs.voice.coding_count.Reads as voice-coding-count-reads
-use Rattle.voice.proofs.voice.read_voice.Kinds as voice-read-voice-kinds
-use Rattle.voice.proofs.voice.read_voice.Reads as voice-read-voice-reads
-use Rattle.voice.proofs.voice.fit_voice.Kinds as voice-fit-voice-kinds
-use Rattle.voice.proofs.voice.fit_voice.Reads as voice-fit-voice-reads
-use Rattle.voice.proofs.voice.put_voice.Kinds as voice-put-voice-kinds
-use Rattle.voice.proofs.voice.put_voice.Reads as voice-put-voice-reads
+use Rattle.sid.proofs.read_sid.Kinds as sid-read-sid-kinds
+use Rattle.sid.proofs.read_sid.Reads as sid-read-sid-reads
+use Rattle.sid.proofs.fit_sid.Kinds as sid-fit-sid-kinds
+use Rattle.sid.proofs.fit_sid.Reads as sid-fit-sid-reads
+use Rattle.sid.proofs.put_sid.Kinds as sid-put-sid-kinds
+use Rattle.sid.proofs.put_sid.Reads as sid-put-sid-reads
+use Rattle.voice.proofs.coding_count.Kinds as voice-coding-count-kinds
+use Rattle.voice.proofs.coding_count.Reads as voice-coding-count-reads
+use Rattle.voice.proofs.read_voice.Kinds as voice-read-voice-kinds
+use Rattle.voice.proofs.read_voice.Reads as voice-read-voice-reads
+use Rattle.voice.proofs.fit_voice.Kinds as voice-fit-voice-kinds
+use Rattle.voice.proofs.fit_voice.Reads as voice-fit-voice-reads
+use Rattle.voice.proofs.put_voice.Kinds as voice-put-voice-kinds
+use Rattle.voice.proofs.put_voice.Reads as voice-put-voice-reads
 
 pub sid-read-sid : OneAnswer 1 sid-read-sid-kinds.ps sid-read-sid-kinds.r nothing sid-read-sid-reads.Post
 sid-read-sid κs a x y s t p q = (p ∙ sym q, refl)

@@ -2,3 +2,4 @@ pub mod Halves
 pub mod Samples
 pub mod LayoutCases
 pub mod LayoutBack
+pub mod Windows

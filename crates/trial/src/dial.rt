@@ -1,8 +1,8 @@
 // The digit sender and the two digit receivers.
-use dialling::receiver::Receiver;
-use dialling::sender::Entry;
-use dialling::sender::Sender;
-use dialling::sender::Sending;
+use dialled::Receiver;
+use dialling::Entry;
+use dialling::Sender;
+use dialling::Sending;
 use digits::layout::Window;
 
 pub struct Dialling {
@@ -14,16 +14,16 @@ pub struct Dialling {
 // As document 01 has them at their start.
 pub fn start_state() -> Dialling {
     Dialling {
-        sender: dialling::sender::fresh(),
-        first: dialling::receiver::fresh(),
-        second: dialling::receiver::fresh(),
+        sender: dialling::fresh(),
+        first: dialled::fresh(),
+        second: dialled::fresh(),
     }
 }
 
 // `digit=`: who, type, code, edge, level.
 pub fn digit(dialling: Dialling, octets: &[u8]) -> Dialling {
     let sender = dialling.sender;
-    let taken = dialling::sender::send(
+    let taken = dialling::send(
         sender,
         Entry {
             on: octets::octet(octets, 1) == 1,
@@ -78,7 +78,7 @@ fn carried(count: u8, periods: [Window; 3]) {
 // One receiver gets a payload.
 fn receive(number: u64, receiver: Receiver, payload: &[u8]) -> Receiver {
     console::print::number(b"receiver=", number);
-    let received = dialling::receiver::receive(receiver, payload);
+    let received = dialled::receive(receiver, payload);
     let after = received.receiver;
     if received.number != refusal::SOUND {
         console::print::number(b"refused=", received.number as u64);
@@ -120,10 +120,10 @@ pub fn voice(dialling: Dialling, octets: &[u8]) -> Dialling {
     let mut first = dialling.first;
     let mut second = dialling.second;
     if crate::line::first_gets(octets) {
-        first = dialling::receiver::hear_voice(first);
+        first = dialled::hear_voice(first);
     }
     if crate::line::second_gets(octets) {
-        second = dialling::receiver::hear_voice(second);
+        second = dialled::hear_voice(second);
     }
     let sender = dialling.sender;
     Dialling {
@@ -138,10 +138,10 @@ pub fn fresh(dialling: Dialling, octets: &[u8]) -> Dialling {
     let mut first = dialling.first;
     let mut second = dialling.second;
     if crate::line::first_gets(octets) {
-        first = dialling::receiver::fresh();
+        first = dialled::fresh();
     }
     if crate::line::second_gets(octets) {
-        second = dialling::receiver::fresh();
+        second = dialled::fresh();
     }
     let sender = dialling.sender;
     Dialling {

@@ -1,7 +1,7 @@
 // The signalling sender and the two signalling receivers.
-use seizing::receiver::Receiver;
-use seizing::sender::Entry;
-use seizing::sender::Sender;
+use seized::Receiver;
+use seizing::Entry;
+use seizing::Sender;
 
 pub struct Seizing {
     sender: Sender,
@@ -11,18 +11,18 @@ pub struct Seizing {
 
 // As document 01 has them at their start; the start value is 0.
 pub fn start_state() -> Seizing {
-    let started = seizing::sender::start(0);
+    let started = seizing::start(0);
     let sender = started.sender;
     Seizing {
         sender: sender,
-        first: seizing::receiver::fresh(),
-        second: seizing::receiver::fresh(),
+        first: seized::fresh(),
+        second: seized::fresh(),
     }
 }
 
 // `start=`: the start value.
 pub fn start(seizing: Seizing, octets: &[u8]) -> Seizing {
-    let started = seizing::sender::start(octets::octet(octets, 0));
+    let started = seizing::start(octets::octet(octets, 0));
     if started.number != refusal::SOUND {
         console::print::number(b"refused=", started.number as u64);
         return seizing;
@@ -43,7 +43,7 @@ pub fn samples(seizing: Seizing, octets: &[u8]) -> Seizing {
     let mut samples = [0u8; 10];
     octets::put_both(&mut samples, 0, crate::line::behind(octets, 2), b"");
     let sender = seizing.sender;
-    let sent = seizing::sender::send(
+    let sent = seizing::send(
         sender,
         Entry {
             alarm: octets::octet(octets, 1) == 1,
@@ -91,7 +91,7 @@ fn carried(count: u8, periods: &[u8; 30]) {
 // One receiver gets a payload.
 fn receive(number: u64, receiver: Receiver, payload: &[u8]) -> Receiver {
     console::print::number(b"receiver=", number);
-    let received = seizing::receiver::receive(receiver, payload);
+    let received = seized::receive(receiver, payload);
     let after = received.receiver;
     if received.number != refusal::SOUND {
         console::print::number(b"refused=", received.number as u64);
@@ -135,10 +135,10 @@ pub fn fresh(seizing: Seizing, octets: &[u8]) -> Seizing {
     let mut first = seizing.first;
     let mut second = seizing.second;
     if crate::line::first_gets(octets) {
-        first = seizing::receiver::fresh();
+        first = seized::fresh();
     }
     if crate::line::second_gets(octets) {
-        second = seizing::receiver::fresh();
+        second = seized::fresh();
     }
     let sender = seizing.sender;
     Seizing {

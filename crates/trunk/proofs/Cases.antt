@@ -5,10 +5,10 @@ use mathlib.Core.List.{List}
 use mathlib.Core.Bool.{Bool, true, false, cond}
 use borrow.Author.Tests.{eq-eqb, ne-eqb}
 use Rattle.record.specs.declared.table.Found.{Found}
-use Rattle.dialling.specs.declared.receiver.Received as digits
-use Rattle.dialling.specs.Receiver as dialling
-use Rattle.seizing.specs.declared.receiver.Received as signalling
-use Rattle.seizing.specs.Receiver as seizing
+use Rattle.dialled.specs.declared.Received as digits
+use Rattle.dialled.specs.Receiver as dialling
+use Rattle.seized.specs.declared.Received as signalling
+use Rattle.seized.specs.Receiver as seizing
 use Rattle.payload.specs.declared.layout.Layout.{Layout}
 use Rattle.payload.specs.Layout.{layoutOf}
 use Rattle.trunk.specs.declared.Trunk.{Trunk}

@@ -8,12 +8,12 @@ use lib.Dec.{eqb}
 use Rattle.refusal.specs.Numbers.{sound}
 use Rattle.record.specs.declared.syntax.Record.{Record}
 use Rattle.record.specs.declared.table.Found.{Found}
-use Rattle.voice.specs.declared.voice.VoiceRead.{VoiceRead}
-use Rattle.voice.specs.declared.voice.VoiceRead.the-variants.{Voice, BadVoice}
-use Rattle.voice.specs.declared.sid.SidRead.{SidRead}
-use Rattle.voice.specs.declared.sid.SidRead.the-variants.{Silence, BadSid}
+use Rattle.voice.specs.declared.VoiceRead.{VoiceRead}
+use Rattle.voice.specs.declared.VoiceRead.the-variants.{Voice, BadVoice}
+use Rattle.sid.specs.declared.SidRead.{SidRead}
+use Rattle.sid.specs.declared.SidRead.the-variants.{Silence, BadSid}
 use Rattle.voice.specs.Voice.{readRefusals, voiceRead}
-use Rattle.voice.specs.Sid.{sidRead}
+use Rattle.sid.specs.Sid.{sidRead}
 use Rattle.refusal.proofs.Order as order
 use Rattle.data.specs.declared.DataRead.{DataRead}
 use Rattle.data.specs.declared.DataRead.the-variants.{Fragment, BadData}
@@ -25,12 +25,12 @@ use Rattle.digits.specs.declared.layout.DigitsRead.{DigitsRead}
 use Rattle.digits.specs.declared.layout.DigitsRead.the-variants.{Dialled, BadDigits}
 use Rattle.digits.specs.Layout.{digitsRead}
 use Rattle.signalling.specs.Layout.{signallingRead}
-use Rattle.dialling.specs.declared.receiver.Receiver as dialling-receiver
-use Rattle.dialling.specs.declared.receiver.Received as digits
-use Rattle.dialling.specs.Receiver as dialling
-use Rattle.seizing.specs.declared.receiver.Receiver as seizing-receiver
-use Rattle.seizing.specs.declared.receiver.Received as signalling
-use Rattle.seizing.specs.Receiver as seizing
+use Rattle.dialled.specs.declared.Receiver as dialling-receiver
+use Rattle.dialled.specs.declared.Received as digits
+use Rattle.dialled.specs.Receiver as dialling
+use Rattle.seized.specs.declared.Receiver as seizing-receiver
+use Rattle.seized.specs.declared.Received as signalling
+use Rattle.seized.specs.Receiver as seizing
 use Rattle.payload.specs.declared.layout.Layout.{Layout}
 use Rattle.payload.specs.declared.layout.Layout.the-variants.{OfVoice, OfDigits, OfSignalling, OfFax, OfSid, OfData, NoLayout}
 use Rattle.payload.specs.Layout.{layoutOf}

@@ -7,8 +7,8 @@ use Rattle.refusal.specs.Numbers.{sound}
 use Rattle.record.specs.declared.syntax.Record.{Record}
 use Rattle.record.specs.declared.syntax.Syntax.{Syntax}
 use Rattle.record.specs.declared.table.Found.{Found}
-use Rattle.dialling.specs.Receiver as dialling
-use Rattle.seizing.specs.Receiver as seizing
+use Rattle.dialled.specs.Receiver as dialling
+use Rattle.seized.specs.Receiver as seizing
 use Rattle.payload.specs.declared.layout.Layout.the-variants.{OfVoice, OfDigits, OfSignalling, OfFax, OfSid, OfData}
 use Rattle.payload.specs.Content.{payloadRead, numberOf}
 use Rattle.payload.specs.Layout.{layoutOf}

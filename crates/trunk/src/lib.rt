@@ -8,19 +8,19 @@ use payload::layout::Layout;
 use record::syntax::Record;
 use record::syntax::Syntax;
 use record::table::Found;
-use voice::sid::SidRead;
-use voice::voice::VoiceRead;
+use sid::SidRead;
+use voice::VoiceRead;
 ghost use mathlib.Core.Path.{_≡_};
 ghost use Rattle.trunk.specs.Trunk.{freshTrunk, nothingDialled, nothingSeized, refusing, passing, voiceTaken, digitsTaken, signallingTaken, faxTaken, sidTaken, dataTaken, taken};
 ghost use Rattle.data.specs.Data.{dataRead};
 ghost use Rattle.fax.specs.Fax.{faxRead};
 ghost use Rattle.voice.specs.Voice.{voiceRead};
-ghost use Rattle.voice.specs.Sid.{sidRead};
+ghost use Rattle.sid.specs.Sid.{sidRead};
 
 // All receiving state of one sub-channel.
 pub struct Trunk {
-    pub digits: dialling::receiver::Receiver,
-    pub signalling: seizing::receiver::Receiver,
+    pub digits: dialled::Receiver,
+    pub signalling: seized::Receiver,
 }
 
 // What was heard.
@@ -67,8 +67,8 @@ pub fn fresh() -> Trunk
     ensures { λ r. ⌜ r ≡ freshTrunk ⌝ }
 {
     Trunk {
-        digits: dialling::receiver::fresh(),
-        signalling: seizing::receiver::fresh(),
+        digits: dialled::fresh(),
+        signalling: seized::fresh(),
     }
 }
 
@@ -124,13 +124,13 @@ fn pass(trunk: Trunk, heard: Heard) -> Told
 fn take_voice(trunk: Trunk, rec: Record, payload: &[u8]) -> Told
     ensures { λ r. ⌜ r ≡ voiceTaken trunk (voiceRead rec (now (payload .entry))) ⌝ }
 {
-    match voice::voice::read_voice(rec, payload) {
+    match voice::read_voice(rec, payload) {
         VoiceRead::BadVoice(number) => refuse(trunk, number),
         VoiceRead::Voice { .. } => {
             let digits = trunk.digits;
             let signalling = trunk.signalling;
             let after = Trunk {
-                digits: dialling::receiver::hear_voice(digits),
+                digits: dialled::hear_voice(digits),
                 signalling: signalling,
             };
             pass(after, Heard::HeardVoice)
@@ -143,7 +143,7 @@ fn take_digits(trunk: Trunk, payload: &[u8]) -> Told
 {
     let digits = trunk.digits;
     let signalling = trunk.signalling;
-    let got = dialling::receiver::receive(digits, payload);
+    let got = dialled::receive(digits, payload);
     if got.number != refusal::SOUND {
         return refuse(trunk, got.number);
     }
@@ -172,7 +172,7 @@ fn take_signalling(trunk: Trunk, payload: &[u8]) -> Told
 {
     let digits = trunk.digits;
     let signalling = trunk.signalling;
-    let got = seizing::receiver::receive(signalling, payload);
+    let got = seized::receive(signalling, payload);
     if got.number != refusal::SOUND {
         return refuse(trunk, got.number);
     }
@@ -207,7 +207,7 @@ fn take_fax(trunk: Trunk, payload: &[u8]) -> Told
 fn take_sid(trunk: Trunk, syntax: Syntax, payload: &[u8]) -> Told
     ensures { λ r. ⌜ r ≡ sidTaken trunk (sidRead syntax (now (payload .entry))) ⌝ }
 {
-    match voice::sid::read_sid(syntax, payload) {
+    match sid::read_sid(syntax, payload) {
         SidRead::BadSid(number) => refuse(trunk, number),
         SidRead::Silence(_) => pass(trunk, Heard::HeardSilence),
     }

@@ -6,8 +6,8 @@ use digits::layout::Digits;
 use digits::layout::Window;
 use fax::Command;
 use fax::Stamp;
+use sid::Sid;
 use signalling::layout::Signalling;
-use voice::sid::Sid;
 
 // The octets of a line from a place on.
 pub fn body<'a>(octets: &'a [u8], at: usize) -> &'a [u8] {

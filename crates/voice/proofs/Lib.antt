@@ -1,5 +1,3 @@
 pub mod Sizes
 pub mod VoiceCases
 pub mod VoiceBack
-pub mod SidCases
-pub mod SidBack

@@ -11,7 +11,7 @@ use Rattle.octets.specs.Octets.{Octets}
 use Rattle.octets.specs.Made.{made}
 use Rattle.counts.specs.declared.VoiceCount.{VoiceCount}
 use Rattle.record.specs.declared.syntax.Record.{Record}
-use Rattle.voice.specs.declared.voice.VoiceRead.the-variants.{Voice, BadVoice}
+use Rattle.voice.specs.declared.VoiceRead.the-variants.{Voice, BadVoice}
 use Rattle.voice.specs.Voice.{frontOf, sequenceIn, codingIn, bodyIn, bodyRefusals, readRefusals, voiceRead, mostSequence, frontOctets, voiceMade}
 use Rattle.voice.specs.Claims.{VoiceReadsBack, VoiceMadeAgain}
 use Rattle.refusal.proofs.Order.{Passes, sounds, passed}

@@ -13,7 +13,7 @@ use Rattle.refusal.specs.Numbers.{sound, typeNotAllowed, lengthWrong, reservedC
 use Rattle.refusal.specs.Order.{_gives_}
 use Rattle.octets.specs.Made.{made, unmade}
 use Rattle.record.specs.declared.syntax.Record.{Record}
-use Rattle.voice.specs.declared.voice.VoiceRead.the-variants.{Voice, BadVoice}
+use Rattle.voice.specs.declared.VoiceRead.the-variants.{Voice, BadVoice}
 use Rattle.voice.specs.Voice.{codings, blockOctets, bothFlags, g7231Octets, isG7231, bodyOctets, frontOf, deciding, frontOctet, sequenceIn, codingIn, bodyIn, voiceless, bodyRefusals, voiceRead, mostSequence, writeRefusals, frontOctets, voiceMade}
 use Rattle.refusal.proofs.Order.{Stops, here, past, Passes, stopped, sounds, passed, numberOf, by-number}
 use Rattle.voice.proofs.Sizes as sizes

@@ -1,3 +1,2 @@
 pub mod Voice
-pub mod Sid
 pub mod Claims

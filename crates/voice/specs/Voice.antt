@@ -13,8 +13,8 @@ use Rattle.octets.specs.Made.{Made, made, unmade}
 use Rattle.record.specs.declared.syntax.Syntax.{Syntax}
 use Rattle.record.specs.declared.syntax.Syntax.the-variants.{Acelp, Pcm, G727, G728, G7231, Data, Fax}
 use Rattle.record.specs.declared.syntax.Record.{Record}
-use Rattle.voice.specs.declared.voice.VoiceRead.{VoiceRead}
-use Rattle.voice.specs.declared.voice.VoiceRead.the-variants.{Voice, BadVoice}
+use Rattle.voice.specs.declared.VoiceRead.{VoiceRead}
+use Rattle.voice.specs.declared.VoiceRead.the-variants.{Voice, BadVoice}
 
 -- "F, codes 0 to 13"
 abbrev pub pcmOctets : List ℕ

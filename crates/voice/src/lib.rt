@@ -1,3 +1,243 @@
-// Voice payloads and silence descriptors (document 01, "Payload types").
-pub mod sid;
-pub mod voice;
+// Voice payloads, read and written (document 01, "Payload types": acelp, pcm, g727, g728, g7231).
+use counts::VoiceCount;
+use octets::Fit;
+use octets::Put;
+use record::syntax::Record;
+use record::syntax::Syntax;
+ghost use mathlib.Core.Path.{_≡_};
+ghost use mathlib.Core.Bool.{true};
+ghost use lib.ListN.{getD};
+ghost use Prim.Native.Nat.{_*_, _<_};
+ghost use Rattle.octets.specs.Made.{fitOf, putMade, leftMade};
+ghost use mathlib.Core.List.{_∷_};
+ghost use Rattle.refusal.specs.Numbers.{sound, typeNotAllowed};
+ghost use Rattle.refusal.specs.Order.{_gives_, inOrder};
+ghost use Rattle.voice.specs.Voice.{codings, pcmOctets, g727Octets, blockOctets, g7231Octets, isG7231, seqFront, frontBy, frontOf, voiceless, bodyRefusals, voiceRead, mostSequence, voiceMade};
+
+// The octets of a coding type, of Annex F and of Annex G.
+const PCM_OCTETS: [u8; 14] = [40, 35, 30, 40, 35, 30, 25, 20, 15, 10, 25, 20, 15, 10];
+
+const G727_OCTETS: [u8; 15] = [10, 5, 10, 15, 15, 20, 25, 15, 5, 10, 20, 25, 20, 5, 25];
+
+// What reading a voice payload tells; the body begins behind `front` octets.
+pub enum VoiceRead {
+    Voice {
+        sequence: VoiceCount,
+        coding: u8,
+        front: usize,
+    },
+    // The refusal number.
+    BadVoice(u8),
+}
+
+// How many coding types a syntax has; data and fax have none.
+pub fn coding_count(syntax: Syntax) -> u8
+    ensures { λ r. ⌜ r ≡ codings syntax ⌝ }
+{
+    match syntax {
+        Syntax::Acelp => 1,
+        Syntax::Pcm => 14,
+        Syntax::G727 => 15,
+        Syntax::G728 => 1,
+        Syntax::G7231 => 1,
+        Syntax::Data => 0,
+        Syntax::Fax => 0,
+    }
+}
+
+// The octets of a coding type under Annex F, and under Annex G.
+fn pcm_octets(coding: u8) -> usize
+    requires { ⌜ coding < 14 ⌝ }
+    ensures { λ r. ⌜ r ≡ getD pcmOctets coding 0 ⌝ }
+{
+    let at = coding as usize;
+    octets::wide(PCM_OCTETS[at])
+}
+
+fn g727_octets(coding: u8) -> usize
+    requires { ⌜ coding < 15 ⌝ }
+    ensures { λ r. ⌜ r ≡ getD g727Octets coding 0 ⌝ }
+{
+    let at = coding as usize;
+    octets::wide(G727_OCTETS[at])
+}
+
+// The octets of one block.
+fn block_octets(syntax: Syntax, coding: u8) -> usize
+    requires { ⌜ coding < codings syntax ⌝ }
+    ensures { λ r. ⌜ r ≡ blockOctets syntax coding ⌝ }
+{
+    match syntax {
+        Syntax::Acelp => 10,
+        Syntax::Pcm => pcm_octets(coding),
+        Syntax::G727 => g727_octets(coding),
+        Syntax::G728 => 10,
+        Syntax::G7231 => 0,
+        Syntax::Data => 0,
+        Syntax::Fax => 0,
+    }
+}
+
+// The octets of m blocks.
+fn blocks_octets(m: u8, syntax: Syntax, coding: u8) -> usize
+    requires { ⌜ coding < codings syntax ⌝ }
+    ensures { λ r. ⌜ r ≡ m * blockOctets syntax coding ⌝ }
+{
+    octets::wide(m) * block_octets(syntax, coding)
+}
+
+// The octets of one G.723.1 frame, from its first octet.
+fn g7231_octets(first: u8) -> usize
+    ensures { λ r. ⌜ r ≡ g7231Octets first ⌝ }
+{
+    if first % 2 == 0 { 24 } else { 20 }
+}
+
+fn is_g7231(syntax: Syntax) -> bool
+    ensures { λ r. ⌜ r ≡ isG7231 syntax ⌝ }
+{
+    match syntax {
+        Syntax::Acelp => false,
+        Syntax::Pcm => false,
+        Syntax::G727 => false,
+        Syntax::G728 => false,
+        Syntax::G7231 => true,
+        Syntax::Data => false,
+        Syntax::Fax => false,
+    }
+}
+
+// The refusal number of one G.723.1 frame.
+fn frame_refusal(rec: Record, coding: u8, body: &[u8]) -> u8
+    requires { ⌜ isG7231 (rec .syntax) ≡ true ⌝ }
+    ensures { λ r. ⌜ r ≡ inOrder (bodyRefusals rec coding (now (body .entry))) (λ number. number) sound ⌝ }
+{
+    if body.len() == 0 {
+        return refusal::LENGTH_WRONG;
+    }
+    if coding != 0 {
+        return refusal::CODING_TYPE_UNKNOWN;
+    }
+    let first = body[0];
+    if first % 4 == 3 {
+        return refusal::RESERVED_CODE;
+    }
+    if body.len() == g7231_octets(first) {
+        return refusal::SOUND;
+    }
+    refusal::LENGTH_WRONG
+}
+
+// The refusal number of a body with its coding type.
+fn body_refusal(rec: Record, coding: u8, body: &[u8]) -> u8
+    ensures { λ r. ⌜ r ≡ inOrder (voiceless (rec .syntax) gives typeNotAllowed ∷ bodyRefusals rec coding (now (body .entry))) (λ number. number) sound ⌝ }
+{
+    let syntax = rec.syntax;
+    let codings = coding_count(syntax);
+    if codings == 0 {
+        return refusal::TYPE_NOT_ALLOWED;
+    }
+    if is_g7231(syntax) {
+        return frame_refusal(rec, coding, body);
+    }
+    if codings <= coding {
+        return refusal::CODING_TYPE_UNKNOWN;
+    }
+    if body.len() == blocks_octets(rec.m, syntax, coding) {
+        return refusal::SOUND;
+    }
+    refusal::LENGTH_WRONG
+}
+
+fn seq_front(seq: bool) -> usize
+    ensures { λ r. ⌜ r ≡ seqFront seq ⌝ }
+{
+    if seq { 1 } else { 0 }
+}
+
+fn front_by(syntax: Syntax, seq: bool) -> usize
+    ensures { λ r. ⌜ r ≡ frontBy syntax seq ⌝ }
+{
+    let one = seq_front(seq);
+    match syntax {
+        Syntax::Acelp => one,
+        Syntax::Pcm => 1,
+        Syntax::G727 => 1,
+        Syntax::G728 => one,
+        Syntax::G7231 => one,
+        Syntax::Data => 0,
+        Syntax::Fax => 0,
+    }
+}
+
+// How many octets stand in front of the body.
+fn front_size(rec: Record) -> usize
+    ensures { λ r. ⌜ r ≡ frontOf rec ⌝ }
+{
+    let syntax = rec.syntax;
+    front_by(syntax, rec.seq)
+}
+
+// Reads a voice payload.
+pub fn read_voice(rec: Record, payload: &[u8]) -> VoiceRead
+    ensures { λ r. ⌜ r ≡ voiceRead rec (now (payload .entry)) ⌝ }
+{
+    let front = front_size(rec);
+    if payload.len() < front {
+        return VoiceRead::BadVoice(refusal::LENGTH_WRONG);
+    }
+    let octet = octets::octet(&payload[..front], 0);
+    let number = body_refusal(rec, octet % 16, &payload[front..]);
+    if number == refusal::SOUND {
+        return VoiceRead::Voice {
+            sequence: VoiceCount(octet / 16),
+            coding: octet % 16,
+            front,
+        };
+    }
+    VoiceRead::BadVoice(number)
+}
+
+// The largest sequence that a payload with so many front octets carries.
+fn most_sequence(front: usize) -> u8
+    ensures { λ r. ⌜ r ≡ mostSequence front ⌝ }
+{
+    if front == 0 { 0 } else { 15 }
+}
+
+// The octets of a voice payload with this body, or the refusal.
+pub fn fit_voice(rec: Record, sequence: VoiceCount, coding: u8, body: &[u8]) -> Fit
+    ensures { λ r. ⌜ r ≡ fitOf (voiceMade rec (sequence .0) coding (now (body .entry))) ⌝ }
+{
+    let number = body_refusal(rec, coding, body);
+    if number != refusal::SOUND {
+        return Fit::Unfit(number);
+    }
+    let front = front_size(rec);
+    if most_sequence(front) < sequence.0 {
+        return Fit::Unfit(refusal::VALUE_OUT_OF_RANGE);
+    }
+    Fit::Octets(front + body.len())
+}
+
+// Writes a voice payload at a place of lent room.
+pub fn put_voice(
+    room: &mut [u8],
+    at: usize,
+    rec: Record,
+    sequence: VoiceCount,
+    coding: u8,
+    body: &[u8],
+) -> Put
+    ensures answer { λ r. ⌜ r ≡ putMade (now (room .entry)) at (voiceMade rec (sequence .0) coding (now (body .entry))) ⌝ }
+    ensures holds { λ r. ⌜ now (room .exit) ≡ leftMade (now (room .entry)) at (voiceMade rec (sequence .0) coding (now (body .entry))) ⌝ }
+{
+    match fit_voice(rec, sequence, coding, body) {
+        Fit::Unfit(number) => Put::NotWritten(number),
+        Fit::Octets(_) => {
+            let head = [sequence.0 * 16 + coding];
+            let front = front_size(rec);
+            octets::put_both(room, at, &head[..front], body)
+        }
+    }
+}

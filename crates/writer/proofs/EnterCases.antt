@@ -10,7 +10,7 @@ use lib.ListN.{length, take, drop, length-append}
 use lib.Seq.{take-take, drop-at, length-take-le, take-append-le}
 use Rattle.octets.specs.Made.{Made, made, unmade, fitOf}
 use Rattle.octets.specs.Room.{written}
-use Rattle.frame.specs.Joining.{shortestHeader}
+use Rattle.joining.specs.Joining.{shortestHeader}
 use Rattle.writer.specs.declared.place.Writer.{Writer}
 use Rattle.writer.specs.declared.place.Entered.the-variants.{Place}
 use Rattle.writer.specs.Writer.{mostNotLast, tooLong, entered}

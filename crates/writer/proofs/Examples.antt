@@ -2,7 +2,7 @@
 use mathlib.Core.Path.{refl}
 use Rattle.voice.specs.Voice.{voiceMade, bodyOctets, blockOctets, frontOf}
 use Rattle.data.specs.Data.{dataMade}
-use Rattle.frame.specs.Joining.{shortestHeader, headerSize}
+use Rattle.joining.specs.Joining.{shortestHeader, headerSize}
 use Rattle.writer.specs.Writer.{channelFor, placed, writing}
 use Rattle.writer.specs.Examples.{cases, Refusals}
 

@@ -10,7 +10,7 @@ use Rattle.refusal.specs.Numbers.{roomTooSmall, tooLongNotLast, frameFull}
 use Rattle.refusal.specs.Order.{Test, _gives_}
 use Rattle.octets.proofs.Order.{clash}
 use Rattle.frame.specs.Opening.{mostOctets, mostSubFrames}
-use Rattle.frame.specs.Joining.{headerSize}
+use Rattle.joining.specs.Joining.{headerSize}
 use Rattle.writer.specs.declared.place.Writer.{Writer}
 use Rattle.writer.specs.declared.place.Entered.the-variants.{Place, NoPlace}
 use Rattle.writer.specs.Writer.{tooLong, full, placed}

@@ -12,7 +12,7 @@ use Rattle.record.specs.declared.syntax.Record.{Record}
 use Rattle.record.specs.declared.table.Found.{Found}
 use Rattle.record.specs.declared.table.Found.the-variants.{Provisioned, Unprovisioned}
 use Rattle.frame.specs.Opening.{mostOctets, mostSubFrames}
-use Rattle.frame.specs.Joining.{headerSize, shortestHeader}
+use Rattle.joining.specs.Joining.{headerSize, shortestHeader}
 use Rattle.payload.specs.declared.layout.TypeFor.the-variants.{Typed, NoType}
 use Rattle.payload.specs.Layout.{typeFor}
 use Rattle.payload.specs.Content.{Content, kindOf, payloadMade}

@@ -14,8 +14,8 @@ use Rattle.octets.proofs.Writes.{as-long, room-for}
 use Rattle.record.specs.declared.syntax.Record.{Record}
 use Rattle.record.specs.declared.table.Found.{Found}
 use Rattle.record.specs.declared.table.Found.the-variants.{Provisioned}
-use Rattle.frame.specs.Joining.{headerSize, shortestHeader, headerPut}
-use Rattle.frame.proofs.HeaderWritten as header
+use Rattle.joining.specs.Joining.{headerSize, shortestHeader, headerPut}
+use Rattle.joining.proofs.HeaderWritten as header
 use Rattle.payload.specs.declared.layout.TypeFor.{TypeFor}
 use Rattle.payload.specs.declared.layout.TypeFor.the-variants.{Typed}
 use Rattle.payload.specs.Layout.{typeFor}

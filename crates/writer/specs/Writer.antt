@@ -15,7 +15,7 @@ use Rattle.record.specs.declared.syntax.Record.{Record}
 use Rattle.record.specs.declared.table.Found.{Found}
 use Rattle.record.specs.declared.table.Found.the-variants.{Provisioned, Unprovisioned}
 use Rattle.frame.specs.Opening.{mostOctets, mostSubFrames}
-use Rattle.frame.specs.Joining.{shortestHeader, headerSize}
+use Rattle.joining.specs.Joining.{shortestHeader, headerSize}
 use Rattle.payload.specs.declared.layout.Kind.{Kind}
 use Rattle.payload.specs.declared.layout.TypeFor.{TypeFor}
 use Rattle.payload.specs.declared.layout.TypeFor.the-variants.{Typed, NoType}

@@ -11,7 +11,7 @@ ghost use Prim.Native.Nat.{_+_, _-_, _%_};
 ghost use lib.ListN.{length};
 ghost use Rattle.octets.specs.Room.{leftBy};
 ghost use Rattle.record.specs.Record.{foundAt};
-ghost use Rattle.frame.specs.Joining.{shortestHeader, headerPut};
+ghost use Rattle.joining.specs.Joining.{shortestHeader, headerPut};
 ghost use Rattle.writer.specs.Writer.{freshWriter, channelFor, tooLong, full, placed, entered};
 
 // The largest payload that is not last, by its length octet.
@@ -90,13 +90,13 @@ fn too_long(last: bool, len: usize) -> bool
 fn full(writer: Writer, header: usize, len: usize) -> bool
     ensures { λ r. ⌜ r ≡ full writer (writer .at + header + len) ⌝ }
 {
-    if frame::opening::MOST_SUB_FRAMES <= writer.count {
+    if frame::MOST_SUB_FRAMES <= writer.count {
         return true;
     }
-    if octets::exceeds(frame::opening::MOST_OCTETS, writer.at, header) {
+    if octets::exceeds(frame::MOST_OCTETS, writer.at, header) {
         return true;
     }
-    octets::exceeds(frame::opening::MOST_OCTETS, writer.at + header, len)
+    octets::exceeds(frame::MOST_OCTETS, writer.at + header, len)
 }
 
 // 22, 23, 21: where a payload of so many octets begins, behind its header, and the writer after it.
@@ -106,7 +106,7 @@ fn place(room: usize, writer: Writer, last: bool, cid: u8, ptype: u8, len: usize
     if too_long(last, len) {
         return Entered::NoPlace(refusal::TOO_LONG_NOT_LAST);
     }
-    let header = frame::joining::header_size(cid, ptype, last);
+    let header = joining::header_size(cid, ptype, last);
     if full(writer, header, len) {
         return Entered::NoPlace(refusal::FRAME_FULL);
     }
@@ -152,5 +152,5 @@ pub(crate) fn lead(
     ensures answer { λ r. ⌜ r ≡ headerPut (length (now (frame .entry)) - writer .at) (writer .at) cid ptype last ⌝ }
     ensures holds { λ r. ⌜ now (frame .exit) ≡ leftBy r (now (frame .entry)) (writer .at) (shortestHeader cid ptype last (len % 256)) ⌝ }
 {
-    frame::joining::put_header(frame, writer.at, cid, ptype, last, (len % 256) as u8)
+    joining::put_header(frame, writer.at, cid, ptype, last, (len % 256) as u8)
 }

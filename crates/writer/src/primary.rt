@@ -37,11 +37,11 @@ pub fn write_voice(
     match crate::place::channel_for(writer, table, cid, Kind::AVoice) {
         Channel::TakesNot(number) => Primary::PrimaryRefused(number),
         Channel::Takes { rec, ptype } => {
-            let fit = voice::voice::fit_voice(rec, sequence, coding, body);
+            let fit = voice::fit_voice(rec, sequence, coding, body);
             match crate::place::enter(frame.len(), writer, last, cid, ptype, fit) {
                 Entered::NoPlace(number) => Primary::PrimaryRefused(number),
                 Entered::Place { start, len, next } => {
-                    voice::voice::put_voice(frame, start, rec, sequence, coding, body);
+                    voice::put_voice(frame, start, rec, sequence, coding, body);
                     crate::place::lead(frame, writer, last, cid, ptype, len);
                     Primary::PrimaryTaken(next)
                 }

@@ -6,8 +6,8 @@ use digits::layout::Digits;
 use fax::Command;
 use fax::Stamp;
 use payload::layout::Kind;
+use sid::Sid;
 use signalling::layout::Signalling;
-use voice::sid::Sid;
 ghost use mathlib.Core.Path.{_≡_};
 ghost use lib.ListN.{length};
 ghost use Rattle.record.specs.Record.{foundAt};
@@ -126,11 +126,11 @@ pub fn write_sid(
         Channel::TakesNot(number) => Signalled::SignalledRefused(number),
         Channel::Takes { rec, ptype } => {
             let syntax = rec.syntax;
-            let fit = voice::sid::fit_sid(syntax, sid);
+            let fit = sid::fit_sid(syntax, sid);
             match crate::place::enter(frame.len(), writer, last, cid, ptype, fit) {
                 Entered::NoPlace(number) => Signalled::SignalledRefused(number),
                 Entered::Place { start, len, next } => {
-                    voice::sid::put_sid(frame, start, syntax, sid);
+                    sid::put_sid(frame, start, syntax, sid);
                     crate::place::lead(frame, writer, last, cid, ptype, len);
                     Signalled::SignalledTaken(next)
                 }

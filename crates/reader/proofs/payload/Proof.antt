@@ -41,13 +41,13 @@ use denote.Triple.Table.{entered, cited}
 use denote.Triple.Walked.{says, Stays, stay-none, walkOf, goes-none, Walks, ends-at, walked, walk-meets}
 use denote.Exit.{yes}
 use denote.Triple.Clauses.{ensured, lasts}
-use Rattle.frame.specs.declared.header.SubFrame.{SubFrame}
+use Rattle.header.specs.declared.SubFrame.{SubFrame}
 use Rattle.reader.specs.Reading.{payloadOf, payloadAt}
 use Rattle.reader.specs.declared.Reader.{Reader}
 use Rattle.reader.proofs.Reader as T
 use Rattle.reader.proofs.Reader.Laws as T′
-use Rattle.frame.proofs.header.SubFrame as S
-use Rattle.frame.proofs.header.SubFrame.Laws as S′
+use Rattle.header.proofs.SubFrame as S
+use Rattle.header.proofs.SubFrame.Laws as S′
 use Rattle.reader.proofs.part as part
 use Rattle.reader.proofs.part.Symbol as part-def
 use Rattle.reader.proofs.part.Symbol.{name as #reader·part}

@@ -2,7 +2,7 @@
 use borrow.Author.Needs.{needs}
 use native.Mathlib.Omega.{arith}
 use mathlib.Core.Path.{sym, _∙_}
-use Rattle.frame.proofs.HeaderInverse as inverse
+use Rattle.header.proofs.HeaderInverse as inverse
 use Rattle.reader.proofs.Cases as cases
 use Rattle.reader.proofs.step_from.Statement.{statement}
 use Rattle.reader.proofs.step_from.Tie as tie

@@ -1,6 +1,6 @@
 -- `trunk::take_voice` meets its contract.
 use mathlib.Core.Path.{sym, ap, _∙_}
-use Rattle.dialling.specs.declared.receiver.Receiver.{Receiver}
+use Rattle.dialled.specs.declared.Receiver.{Receiver}
 use Rattle.trunk.specs.declared.Heard.the-variants.{HeardVoice}
 use Rattle.trunk.specs.Trunk.{passing, voiceTaken}
 use borrow.Author.Needs.{needs}

@@ -4,10 +4,10 @@ use mathlib.Core.Path.{_≡_, sym, _∙_}
 use native.Mathlib.Omega.{arith}
 use lib.ListN.{length}
 use borrow.Author.Needs.{needs}
-use Rattle.frame.specs.declared.header.Header.the-variants.{Sub}
-use Rattle.frame.specs.Header.{headerAt}
-use Rattle.frame.specs.Opening.{mostSubFrames, endOf}
-use Rattle.frame.proofs.HeaderInverse.{ends-within}
+use Rattle.header.specs.declared.Header.the-variants.{Sub}
+use Rattle.header.specs.Header.{headerAt, endOf}
+use Rattle.frame.specs.Opening.{mostSubFrames}
+use Rattle.header.proofs.HeaderInverse.{ends-within}
 use Rattle.record.specs.declared.table.Found.the-variants.{Provisioned}
 use Rattle.card.proofs.HandingCases as cases
 use Rattle.card.proofs.handing.first_of.Statement.{statement}

@@ -5,7 +5,7 @@ use native.Mathlib.Omega.{arith}
 use lib.ListN.{length, take, drop}
 use Rattle.octets.proofs.Texts.{starts-length}
 use Rattle.provisioning.specs.Line.{row}
-use Rattle.provisioning.proofs.Values as values
+use Rattle.value.proofs.Values as values
 use Rattle.provisioning.proofs.Lines as lines
 use borrow.Author.Needs.{needs}
 use Rattle.provisioning.proofs.line.value_line.Statement.{statement}

@@ -1,0 +1,3 @@
+pub mod HeaderCases
+pub mod HeaderRead
+pub mod HeaderInverse

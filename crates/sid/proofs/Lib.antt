@@ -1,0 +1,2 @@
+pub mod SidCases
+pub mod SidBack

@@ -1,0 +1,2 @@
+pub mod Sid
+pub mod Claims
