@@ -49,7 +49,7 @@ pub fn run() {
 fn case(table: &[u16; 256], name: &[u8], last: bool, cid: u8, coding: u8, body: &[u8]) {
     crate::print::name(name);
     let mut frame = [0u8; 1600];
-    let fresh = writer::place::fresh();
+    let fresh = place::fresh();
     match writer::primary::write_voice(
         &mut frame,
         fresh,

@@ -4,8 +4,8 @@ use crate::contents;
 use crate::list::Given;
 use crate::list::List;
 use payload::layout::Kind;
+use place::Writer;
 use signalling::layout::Signalling;
-use writer::place::Writer;
 use writer::primary::Primary;
 use writer::signalled::Signalled;
 
@@ -142,7 +142,7 @@ fn write(frame: &mut [u8], writer: Writer, table: &[u16; 256], given: Given) -> 
 // Writes a list, and tells the octets of its frame.
 pub fn write_list(frame: &mut [u8], table: &[u16; 256], list: List) -> usize {
     let shape = list.shape;
-    let mut writer = writer::place::fresh();
+    let mut writer = place::fresh();
     let mut seed = list.seed;
     let mut left = list.most;
     while 0 < left {

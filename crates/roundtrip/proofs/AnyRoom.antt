@@ -5,7 +5,7 @@ use mathlib.Core.List.{List}
 use lib.ListN.{length, take}
 use Rattle.octets.specs.Room.{written}
 use Rattle.joining.specs.Joining.{joined}
-use Rattle.writer.specs.declared.place.Writer.{Writer}
+use Rattle.place.specs.declared.Writer.{Writer}
 use Rattle.roundtrip.specs.Demand2.{took, AnyRoom}
 use Rattle.roundtrip.proofs.RoundTrip.{frame-is, legal-is-made}
 use Rattle.roundtrip.proofs.Taken.{made-is-taken}

@@ -16,9 +16,10 @@ use Rattle.joining.specs.Joining as joining
 use Rattle.joining.proofs.HeaderWritten as header
 use Rattle.framing.specs.Claims.{Each}
 use Rattle.payload.specs.Content.{kindOf}
-use Rattle.writer.specs.declared.place.Writer.{Writer}
-use Rattle.writer.specs.Writer.{mostNotLast, tooLong, Writing, writes, refuses, leftWriting}
-use Rattle.writer.proofs.ChannelCases.{small-typed}
+use Rattle.place.specs.declared.Writer.{Writer}
+use Rattle.place.specs.Place.{mostNotLast, tooLong}
+use Rattle.writer.specs.Writer.{Writing, writes, refuses, leftWriting}
+use Rattle.place.proofs.ChannelCases.{small-typed}
 use Rattle.writer.proofs.WriteBack.{Took, took-back}
 use Rattle.roundtrip.specs.Demand2.{Sub, AllStated, isLast, took, stopped, after, onwards, first, fed, AllMade}
 

@@ -13,8 +13,9 @@ use Rattle.octets.proofs.Order.{lt-or-le}
 use Rattle.octets.proofs.Writes.{length-written}
 use Rattle.record.specs.Record.{foundAt}
 use Rattle.joining.specs.Joining.{joined}
-use Rattle.writer.specs.declared.place.Writer.{Writer}
-use Rattle.writer.specs.Writer.{freshWriter, Writing, writes, refuses, writing, leftWriting}
+use Rattle.place.specs.declared.Writer.{Writer}
+use Rattle.place.specs.Place.{freshWriter}
+use Rattle.writer.specs.Writer.{Writing, writes, refuses, writing, leftWriting}
 use Rattle.writer.proofs.WriteBack.{too-small, large-enough}
 use Rattle.roundtrip.specs.Demand2.{Sub, AllStated, isLast, took, stopped, after, onwards, first, fed, LessRoom}
 use Rattle.roundtrip.proofs.RoundTrip.{some}

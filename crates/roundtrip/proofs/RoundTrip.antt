@@ -18,8 +18,8 @@ use Rattle.framing.proofs.Same.{opens-to-the-same}
 use Rattle.framing.proofs.Shortest.{one-shortest}
 use Rattle.payload.specs.Content.{payloadRead}
 use Rattle.payload.proofs.ContentBack.{content-reads-back}
-use Rattle.writer.specs.declared.place.Writer.{Writer}
-use Rattle.writer.specs.Writer.{freshWriter}
+use Rattle.place.specs.declared.Writer.{Writer}
+use Rattle.place.specs.Place.{freshWriter}
 use Rattle.roundtrip.specs.Demand2.{Sub, AllStated, isLast, fed, Legal, frameOf, Got, gotten, sameAs, WrittenReadsBack, AllMade, end, LegalIsMade}
 use Rattle.roundtrip.proofs.Feeding.{Run, feeding, same-took}
 

@@ -15,8 +15,9 @@ use Rattle.joining.specs.Joining.{joined, isNone, headerSize, shortestHeader}
 use Rattle.joining.specs.Joining as joining
 use Rattle.joining.proofs.HeaderWritten as header
 use Rattle.framing.specs.Claims.{Carriable, Each}
-use Rattle.writer.specs.declared.place.Writer.{Writer}
-use Rattle.writer.specs.Writer.{freshWriter, mostNotLast, tooLong, Writing, writes, writing, leftWriting}
+use Rattle.place.specs.declared.Writer.{Writer}
+use Rattle.place.specs.Place.{freshWriter, mostNotLast, tooLong}
+use Rattle.writer.specs.Writer.{Writing, writes, writing, leftWriting}
 use Rattle.writer.proofs.WriteBack.{Took, large-enough}
 use Rattle.roundtrip.specs.Demand2.{Sub, took, after, onwards, first, fed, AllMade, MadeIsTaken}
 use Rattle.roundtrip.proofs.Feeding.{last-alike, none-written}

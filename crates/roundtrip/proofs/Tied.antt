@@ -24,16 +24,17 @@ use Rattle.payload.specs.declared.layout.Layout.{Layout}
 use Rattle.payload.specs.declared.layout.Layout.the-variants.{OfVoice, OfDigits, OfSignalling, OfFax, OfSid, OfData, NoLayout}
 use Rattle.payload.specs.Layout.{layoutOf}
 use Rattle.payload.specs.Content.{Reading, readAs, payloadRead, ofVoice, ofDigits, ofSignalling, ofFax, ofSid, ofData}
-use Rattle.writer.specs.declared.place.Writer.{Writer}
+use Rattle.place.specs.declared.Writer.{Writer}
 use Rattle.writer.specs.declared.primary.Primary.{Primary}
 use Rattle.writer.specs.declared.signalled.Signalled.{Signalled}
-use Rattle.writer.specs.Writer.{freshWriter, Writing, writes, refuses, leftWriting}
+use Rattle.place.specs.Place.{freshWriter}
+use Rattle.writer.specs.Writer.{Writing, writes, refuses, leftWriting}
 use Rattle.writer.specs.Answers.{primary, signalled}
 use Rattle.roundtrip.specs.Demand2.{Sub, Fed, took, stopped, after, onwards, first, fed, frameOf, Got, gotOf}
 use Rattle.roundtrip.specs.Tied.{Handed, does, leftOf, toVoice, toData, toDigits, toSignalling, toFax, toSid, Tied, Answer, takes, says, answerOf, ofPrimary, ofSignalled, Back, Call, by-voice, by-data, by-digits, by-signalling, by-fax, by-sid, Calls, all-taken, goes-on, stops, CallsAreFed, ReadBy, Gets, AllGet, CallsAreGotten, CallsReadBack}
 use Rattle.roundtrip.proofs.RoundTrip.{written-reads-back}
-use Rattle.writer.proofs.place.fresh.Kinds as fresh-kinds
-use Rattle.writer.proofs.place.fresh.Reads as fresh-reads
+use Rattle.place.proofs.fresh.Kinds as fresh-kinds
+use Rattle.place.proofs.fresh.Reads as fresh-reads
 use Rattle.writer.proofs.primary.write_voice.Kinds as voice-kinds
 use Rattle.writer.proofs.primary.write_voice.Reads as voice-reads
 use Rattle.writer.proofs.primary.write_data.Kinds as data-kinds

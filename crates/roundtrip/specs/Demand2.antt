@@ -1,7 +1,7 @@
 -- Demand 2: "A legal list of sub-frames, written and read again, gives the same list, save that a level above zero and the code
 -- of an off window come back as 0; a written frame is the one shortest form."
 --
--- It holds of the code by the contracts; Tied.antt says so, and it is proved: `writer::place::fresh` is `freshWriter`; the six
+-- It holds of the code by the contracts; Tied.antt says so, and it is proved: `place::fresh` is `freshWriter`; the six
 -- `write_` functions answer and leave what `writing` and `leftWriting` give, and results that meet their contracts, call after
 -- call, are `fed`; `frame::open` answers `answer (opening ..)`, `record::table::record_of` `foundAt`,
 -- `payload::layout::layout_of` `layoutOf`, each `read_` function its part of `readAs`, and what meets their contracts over a frame
@@ -25,8 +25,9 @@ use Rattle.payload.specs.declared.layout.TypeFor.the-variants.{Typed}
 use Rattle.payload.specs.Layout.{typeFor}
 use Rattle.payload.specs.Content.{Content, Reading, reads, payloadRead, payloadMade, kindOf}
 use Rattle.payload.specs.Claims.{normalContent, samplesIn}
-use Rattle.writer.specs.declared.place.Writer.{Writer}
-use Rattle.writer.specs.Writer.{freshWriter, Writing, writes, refuses, writing, leftWriting}
+use Rattle.place.specs.declared.Writer.{Writer}
+use Rattle.place.specs.Place.{freshWriter}
+use Rattle.writer.specs.Writer.{Writing, writes, refuses, writing, leftWriting}
 
 -- A sub-frame of a list: the CID and the content.
 pub record Sub : Type 0 where

@@ -28,16 +28,17 @@ use Rattle.payload.specs.declared.layout.Layout.{Layout}
 use Rattle.payload.specs.declared.layout.Layout.the-variants.{OfVoice, OfDigits, OfSignalling, OfFax, OfSid, OfData, NoLayout}
 use Rattle.payload.specs.Layout.{layoutOf}
 use Rattle.payload.specs.Content.{Content, speech, dialled, seized, faxed, silent, fragment, Reading, refused, ofVoice, ofDigits, ofSignalling, ofFax, ofSid, ofData}
-use Rattle.writer.specs.declared.place.Writer.{Writer}
+use Rattle.place.specs.declared.Writer.{Writer}
 use Rattle.writer.specs.declared.primary.Primary.{Primary}
 use Rattle.writer.specs.declared.primary.Primary.the-variants.{PrimaryTaken, PrimaryRefused}
 use Rattle.writer.specs.declared.signalled.Signalled.{Signalled}
 use Rattle.writer.specs.declared.signalled.Signalled.the-variants.{SignalledTaken, SignalledRefused}
-use Rattle.writer.specs.Writer.{freshWriter, Writing, writes, refuses, writing, leftWriting}
+use Rattle.place.specs.Place.{freshWriter}
+use Rattle.writer.specs.Writer.{Writing, writes, refuses, writing, leftWriting}
 use Rattle.writer.specs.Answers.{primary, signalled}
 use Rattle.roundtrip.specs.Demand2.{Sub, AllStated, isLast, Fed, took, stopped, fed, frameOf, Got, gotten, sameAs, RoundTrip}
-use Rattle.writer.proofs.place.fresh.Kinds as fresh-kinds
-use Rattle.writer.proofs.place.fresh.Reads as fresh-reads
+use Rattle.place.proofs.fresh.Kinds as fresh-kinds
+use Rattle.place.proofs.fresh.Reads as fresh-reads
 use Rattle.writer.proofs.primary.write_voice.Kinds as voice-kinds
 use Rattle.writer.proofs.primary.write_voice.Reads as voice-reads
 use Rattle.writer.proofs.primary.write_data.Kinds as data-kinds

@@ -10,9 +10,9 @@ use digits::layout::Digits;
 use digits::layout::Window;
 use fax::Command;
 use fax::Stamp;
+use place::Writer;
 use sid::Sid;
 use signalling::layout::Signalling;
-use writer::place::Writer;
 use writer::primary::Primary;
 use writer::signalled::Signalled;
 ghost use Prim.Native.Nat.{_<_};
@@ -69,7 +69,7 @@ fn write_voice(acc: u64, frame: &mut [u8], m: &[u8], table: &[u16; 256]) -> u64 
     if m.len() != 325 {
         return acc;
     }
-    let writer = writer::place::fresh();
+    let writer = place::fresh();
     let answer = writer::primary::write_voice(
         frame,
         writer,

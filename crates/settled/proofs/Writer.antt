@@ -2,8 +2,8 @@
 use mathlib.Core.Path.{refl, sym, _∙_}
 use denote.Ref.{now}
 use Rattle.settled.specs.Settled.{OneAnswer, nothing}
-use Rattle.writer.proofs.place.fresh.Kinds as place-fresh-kinds
-use Rattle.writer.proofs.place.fresh.Reads as place-fresh-reads
+use Rattle.place.proofs.fresh.Kinds as place-fresh-kinds
+use Rattle.place.proofs.fresh.Reads as place-fresh-reads
 use Rattle.writer.proofs.primary.write_voice.Kinds as primary-write-voice-kinds
 use Rattle.writer.proofs.primary.write_voice.Reads as primary-write-voice-reads
 use Rattle.writer.proofs.primary.write_data.Kinds as primary-write-data-kinds

@@ -6,8 +6,8 @@ mod write;
 
 use crate::line::Kind;
 use console::input::Input;
+use place::Writer;
 use provisioning::text::TextAnswer;
-use writer::place::Writer;
 
 // How many octets the frame at hand, the silence block and the lent frame have, and where the writer stands.
 struct Stands {
@@ -98,7 +98,7 @@ fn take(
                 frame: stands.frame,
                 silence: stands.silence,
                 room: crate::line::pair(octets, 0) as usize,
-                writer: writer::place::fresh(),
+                writer: place::fresh(),
             }
         }
         Kind::Shown => {
@@ -183,7 +183,7 @@ fn run(block: &mut [u8], room: &mut [u8], begins: Input, table: &[u16; 256]) {
         frame: 0,
         silence: 0,
         room: 0,
-        writer: writer::place::fresh(),
+        writer: place::fresh(),
     };
     let mut input = begins;
     let mut number: u64 = 0;

@@ -2,7 +2,7 @@
 use crate::line::Content;
 use counts::DataCount;
 use counts::VoiceCount;
-use writer::place::Writer;
+use place::Writer;
 use writer::primary::Primary;
 use writer::signalled::Signalled;
 

@@ -16,15 +16,16 @@ use Rattle.joining.specs.Joining.{headerSize, shortestHeader}
 use Rattle.payload.specs.declared.layout.TypeFor.the-variants.{Typed, NoType}
 use Rattle.payload.specs.Layout.{typeFor}
 use Rattle.payload.specs.Content.{Content, kindOf, payloadMade}
-use Rattle.writer.specs.declared.place.Writer.{Writer}
-use Rattle.writer.specs.declared.place.Channel.{Channel}
-use Rattle.writer.specs.declared.place.Channel.the-variants.{Takes, TakesNot}
-use Rattle.writer.specs.declared.place.Entered.{Entered}
-use Rattle.writer.specs.declared.place.Entered.the-variants.{Place, NoPlace}
-use Rattle.writer.specs.Writer.{channelFor, typedOn, onChannel, tooLong, full, placed, entered, enteredOn, writes, refuses, subFrame, taken, writing}
-use Rattle.writer.proofs.ChannelCases.{by-record, taking}
-use Rattle.writer.proofs.PlaceCases.{has-place, small, never}
-use Rattle.writer.proofs.EnterCases.{entered-back}
+use Rattle.place.specs.declared.Writer.{Writer}
+use Rattle.place.specs.declared.Channel.{Channel}
+use Rattle.place.specs.declared.Channel.the-variants.{Takes, TakesNot}
+use Rattle.place.specs.declared.Entered.{Entered}
+use Rattle.place.specs.declared.Entered.the-variants.{Place, NoPlace}
+use Rattle.place.specs.Place.{channelFor, typedOn, onChannel, tooLong, full, placed, entered}
+use Rattle.writer.specs.Writer.{enteredOn, writes, refuses, subFrame, taken, writing}
+use Rattle.place.proofs.ChannelCases.{by-record, taking}
+use Rattle.place.proofs.PlaceCases.{has-place, small, never}
+use Rattle.place.proofs.EnterCases.{entered-back}
 
 -- a sub-frame that is taken: all but the room
 pub record Took (w : Writer) (last : Bool) (found : Found) (cid : ℕ) (content : Content) (octets : List ℕ) (next : Writer) : Type 0 where

@@ -20,14 +20,15 @@ use Rattle.payload.specs.declared.layout.TypeFor.{TypeFor}
 use Rattle.payload.specs.declared.layout.TypeFor.the-variants.{Typed}
 use Rattle.payload.specs.Layout.{typeFor}
 use Rattle.payload.specs.Content.{Content, kindOf, madeOn, madeAs, payloadMade}
-use Rattle.writer.specs.declared.place.Writer.{Writer}
-use Rattle.writer.specs.declared.place.Channel.{Channel}
-use Rattle.writer.specs.declared.place.Channel.the-variants.{Takes, TakesNot}
-use Rattle.writer.specs.declared.place.Entered.{Entered}
-use Rattle.writer.specs.declared.place.Entered.the-variants.{Place, NoPlace}
-use Rattle.writer.specs.Writer.{channelFor, entered, enteredOn, Writing, writes, refuses, subFrame, taken, writing, leftWriting}
-use Rattle.writer.proofs.ChannelCases.{small-typed, Taking, taking}
-use Rattle.writer.proofs.EnterCases.{entered-back, octet-of, before}
+use Rattle.place.specs.declared.Writer.{Writer}
+use Rattle.place.specs.declared.Channel.{Channel}
+use Rattle.place.specs.declared.Channel.the-variants.{Takes, TakesNot}
+use Rattle.place.specs.declared.Entered.{Entered}
+use Rattle.place.specs.declared.Entered.the-variants.{Place, NoPlace}
+use Rattle.place.specs.Place.{channelFor, entered}
+use Rattle.writer.specs.Writer.{enteredOn, Writing, writes, refuses, subFrame, taken, writing, leftWriting}
+use Rattle.place.proofs.ChannelCases.{small-typed, Taking, taking}
+use Rattle.place.proofs.EnterCases.{entered-back, octet-of, before}
 
 made-on : (found : Found) (content : Content) (r : Record) (ptype : ℕ)
     → found ≡ Provisioned r

@@ -8,8 +8,9 @@ use Rattle.record.specs.declared.syntax.Syntax.the-variants.{Acelp, Pcm, Data}
 use Rattle.record.specs.declared.table.Found.{Found}
 use Rattle.record.specs.declared.table.Found.the-variants.{Provisioned, Unprovisioned}
 use Rattle.payload.specs.Content.{Content, speech, fragment}
-use Rattle.writer.specs.declared.place.Writer.{Writer}
-use Rattle.writer.specs.Writer.{freshWriter, Writing, writes, refuses, writing}
+use Rattle.place.specs.declared.Writer.{Writer}
+use Rattle.place.specs.Place.{freshWriter}
+use Rattle.writer.specs.Writer.{Writing, writes, refuses, writing}
 
 abbrev pub acelp : Found
 acelp = Provisioned (record { syntax = Acelp; m = 1; seq = false })

@@ -1,4 +1,3 @@
 // The writer: one sub-frame at a time into a lent frame (document 01, "Refusal numbers").
-pub mod place;
 pub mod primary;
 pub mod signalled;

@@ -1,10 +1,10 @@
 // Voice and data sub-frames, written (document 01, "Refusal numbers" and "Payload types").
-use crate::place::Channel;
-use crate::place::Entered;
-use crate::place::Writer;
 use counts::DataCount;
 use counts::VoiceCount;
 use payload::layout::Kind;
+use place::Channel;
+use place::Entered;
+use place::Writer;
 ghost use mathlib.Core.Path.{_≡_};
 ghost use lib.ListN.{length};
 ghost use Rattle.record.specs.Record.{foundAt};
@@ -34,15 +34,15 @@ pub fn write_voice(
     ensures answer { λ r. ⌜ r ≡ primary (writing (length (now (frame .entry))) writer last (foundAt (now (table .entry)) cid) cid (speech sequence coding (now (body .entry)))) ⌝ }
     ensures holds { λ r. ⌜ now (frame .exit) ≡ leftWriting (writing (length (now (frame .entry))) writer last (foundAt (now (table .entry)) cid) cid (speech sequence coding (now (body .entry)))) (now (frame .entry)) (writer .at) ⌝ }
 {
-    match crate::place::channel_for(writer, table, cid, Kind::AVoice) {
+    match place::channel_for(writer, table, cid, Kind::AVoice) {
         Channel::TakesNot(number) => Primary::PrimaryRefused(number),
         Channel::Takes { rec, ptype } => {
             let fit = voice::fit_voice(rec, sequence, coding, body);
-            match crate::place::enter(frame.len(), writer, last, cid, ptype, fit) {
+            match place::enter(frame.len(), writer, last, cid, ptype, fit) {
                 Entered::NoPlace(number) => Primary::PrimaryRefused(number),
                 Entered::Place { start, len, next } => {
                     voice::put_voice(frame, start, rec, sequence, coding, body);
-                    crate::place::lead(frame, writer, last, cid, ptype, len);
+                    place::lead(frame, writer, last, cid, ptype, len);
                     Primary::PrimaryTaken(next)
                 }
             }
@@ -65,15 +65,15 @@ pub fn write_data(
     ensures answer { λ r. ⌜ r ≡ primary (writing (length (now (frame .entry))) writer last (foundAt (now (table .entry)) cid) cid (fragment begins ends sequence (now (body .entry)))) ⌝ }
     ensures holds { λ r. ⌜ now (frame .exit) ≡ leftWriting (writing (length (now (frame .entry))) writer last (foundAt (now (table .entry)) cid) cid (fragment begins ends sequence (now (body .entry)))) (now (frame .entry)) (writer .at) ⌝ }
 {
-    match crate::place::channel_for(writer, table, cid, Kind::AData) {
+    match place::channel_for(writer, table, cid, Kind::AData) {
         Channel::TakesNot(number) => Primary::PrimaryRefused(number),
         Channel::Takes { ptype, .. } => {
             let fit = data::fit_data(sequence, body);
-            match crate::place::enter(frame.len(), writer, last, cid, ptype, fit) {
+            match place::enter(frame.len(), writer, last, cid, ptype, fit) {
                 Entered::NoPlace(number) => Primary::PrimaryRefused(number),
                 Entered::Place { start, len, next } => {
                     data::put_data(frame, start, begins, ends, sequence, body);
-                    crate::place::lead(frame, writer, last, cid, ptype, len);
+                    place::lead(frame, writer, last, cid, ptype, len);
                     Primary::PrimaryTaken(next)
                 }
             }

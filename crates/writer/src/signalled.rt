@@ -1,11 +1,11 @@
 // Sub-frames of digits, signalling, fax and silence, written (document 01, "Refusal numbers" and "Payload types").
-use crate::place::Channel;
-use crate::place::Entered;
-use crate::place::Writer;
 use digits::layout::Digits;
 use fax::Command;
 use fax::Stamp;
 use payload::layout::Kind;
+use place::Channel;
+use place::Entered;
+use place::Writer;
 use sid::Sid;
 use signalling::layout::Signalling;
 ghost use mathlib.Core.Path.{_≡_};
@@ -35,15 +35,15 @@ pub fn write_digits(
     ensures answer { λ r. ⌜ r ≡ signalled (writing (length (now (frame .entry))) writer last (foundAt (now (table .entry)) cid) cid (dialled digits)) ⌝ }
     ensures holds { λ r. ⌜ now (frame .exit) ≡ leftWriting (writing (length (now (frame .entry))) writer last (foundAt (now (table .entry)) cid) cid (dialled digits)) (now (frame .entry)) (writer .at) ⌝ }
 {
-    match crate::place::channel_for(writer, table, cid, Kind::ADigits) {
+    match place::channel_for(writer, table, cid, Kind::ADigits) {
         Channel::TakesNot(number) => Signalled::SignalledRefused(number),
         Channel::Takes { ptype, .. } => {
             let fit = digits::layout::fit_digits(digits);
-            match crate::place::enter(frame.len(), writer, last, cid, ptype, fit) {
+            match place::enter(frame.len(), writer, last, cid, ptype, fit) {
                 Entered::NoPlace(number) => Signalled::SignalledRefused(number),
                 Entered::Place { start, len, next } => {
                     digits::layout::put_digits(frame, start, digits);
-                    crate::place::lead(frame, writer, last, cid, ptype, len);
+                    place::lead(frame, writer, last, cid, ptype, len);
                     Signalled::SignalledTaken(next)
                 }
             }
@@ -63,15 +63,15 @@ pub fn write_signalling(
     ensures answer { λ r. ⌜ r ≡ signalled (writing (length (now (frame .entry))) writer last (foundAt (now (table .entry)) cid) cid (seized signalling)) ⌝ }
     ensures holds { λ r. ⌜ now (frame .exit) ≡ leftWriting (writing (length (now (frame .entry))) writer last (foundAt (now (table .entry)) cid) cid (seized signalling)) (now (frame .entry)) (writer .at) ⌝ }
 {
-    match crate::place::channel_for(writer, table, cid, Kind::ASignalling) {
+    match place::channel_for(writer, table, cid, Kind::ASignalling) {
         Channel::TakesNot(number) => Signalled::SignalledRefused(number),
         Channel::Takes { ptype, .. } => {
             let fit = signalling::layout::fit_signalling(signalling);
-            match crate::place::enter(frame.len(), writer, last, cid, ptype, fit) {
+            match place::enter(frame.len(), writer, last, cid, ptype, fit) {
                 Entered::NoPlace(number) => Signalled::SignalledRefused(number),
                 Entered::Place { start, len, next } => {
                     signalling::layout::put_signalling(frame, start, signalling);
-                    crate::place::lead(frame, writer, last, cid, ptype, len);
+                    place::lead(frame, writer, last, cid, ptype, len);
                     Signalled::SignalledTaken(next)
                 }
             }
@@ -94,15 +94,15 @@ pub fn write_fax(
     ensures answer { λ r. ⌜ r ≡ signalled (writing (length (now (frame .entry))) writer last (foundAt (now (table .entry)) cid) cid (faxed sequence stamp command (now (body .entry)))) ⌝ }
     ensures holds { λ r. ⌜ now (frame .exit) ≡ leftWriting (writing (length (now (frame .entry))) writer last (foundAt (now (table .entry)) cid) cid (faxed sequence stamp command (now (body .entry)))) (now (frame .entry)) (writer .at) ⌝ }
 {
-    match crate::place::channel_for(writer, table, cid, Kind::AFax) {
+    match place::channel_for(writer, table, cid, Kind::AFax) {
         Channel::TakesNot(number) => Signalled::SignalledRefused(number),
         Channel::Takes { ptype, .. } => {
             let fit = fax::fit_fax(sequence, stamp, command, body);
-            match crate::place::enter(frame.len(), writer, last, cid, ptype, fit) {
+            match place::enter(frame.len(), writer, last, cid, ptype, fit) {
                 Entered::NoPlace(number) => Signalled::SignalledRefused(number),
                 Entered::Place { start, len, next } => {
                     fax::put_fax(frame, start, sequence, stamp, command, body);
-                    crate::place::lead(frame, writer, last, cid, ptype, len);
+                    place::lead(frame, writer, last, cid, ptype, len);
                     Signalled::SignalledTaken(next)
                 }
             }
@@ -122,16 +122,16 @@ pub fn write_sid(
     ensures answer { λ r. ⌜ r ≡ signalled (writing (length (now (frame .entry))) writer last (foundAt (now (table .entry)) cid) cid (silent sid)) ⌝ }
     ensures holds { λ r. ⌜ now (frame .exit) ≡ leftWriting (writing (length (now (frame .entry))) writer last (foundAt (now (table .entry)) cid) cid (silent sid)) (now (frame .entry)) (writer .at) ⌝ }
 {
-    match crate::place::channel_for(writer, table, cid, Kind::ASid) {
+    match place::channel_for(writer, table, cid, Kind::ASid) {
         Channel::TakesNot(number) => Signalled::SignalledRefused(number),
         Channel::Takes { rec, ptype } => {
             let syntax = rec.syntax;
             let fit = sid::fit_sid(syntax, sid);
-            match crate::place::enter(frame.len(), writer, last, cid, ptype, fit) {
+            match place::enter(frame.len(), writer, last, cid, ptype, fit) {
                 Entered::NoPlace(number) => Signalled::SignalledRefused(number),
                 Entered::Place { start, len, next } => {
                     sid::put_sid(frame, start, syntax, sid);
-                    crate::place::lead(frame, writer, last, cid, ptype, len);
+                    place::lead(frame, writer, last, cid, ptype, len);
                     Signalled::SignalledTaken(next)
                 }
             }

@@ -1,7 +1,7 @@
--- `writer::place::enter` meets its contract: by how the content fits, then by its place.
+-- `crate::enter` meets its contract: by how the content fits, then by its place.
 use borrow.Author.Needs.{needs}
-use Rattle.writer.proofs.place.enter.Statement.{statement}
-use Rattle.writer.proofs.place.enter.Tie as tie
+use Rattle.place.proofs.enter.Statement.{statement}
+use Rattle.place.proofs.enter.Tie as tie
 
 pub enter-spec : {M : Type 1} → statement M
 enter-spec =

@@ -1,8 +1,8 @@
--- `writer::place::channel_for` meets its contract: 24, 4, then what the record says.
+-- `crate::channel_for` meets its contract: 24, 4, then what the record says.
 use borrow.Author.Needs.{needs}
-use Rattle.writer.proofs.ChannelCases as cases
-use Rattle.writer.proofs.place.channel_for.Statement.{statement}
-use Rattle.writer.proofs.place.channel_for.Tie as tie
+use Rattle.place.proofs.ChannelCases as cases
+use Rattle.place.proofs.channel_for.Statement.{statement}
+use Rattle.place.proofs.channel_for.Tie as tie
 
 -- no record
 returns-3 : tie.Need-returns-3

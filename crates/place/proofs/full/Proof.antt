@@ -1,13 +1,13 @@
--- `writer::place::full` meets its contract: no sum is made that could pass the largest number.
+-- `crate::full` meets its contract: no sum is made that could pass the largest number.
 use Prim.Native.Nat.{_+_}
 use mathlib.Core.Path.{sym, _∙_}
 use native.Mathlib.Omega.{arith}
 use borrow.Author.Needs.{needs}
 use borrow.Author.Tests.{ltb-true, ltb-false}
 use Rattle.frame.specs.Opening.{mostOctets}
-use Rattle.writer.proofs.PlaceCases as cases
-use Rattle.writer.proofs.place.full.Statement.{statement}
-use Rattle.writer.proofs.place.full.Tie as tie
+use Rattle.place.proofs.PlaceCases as cases
+use Rattle.place.proofs.full.Statement.{statement}
+use Rattle.place.proofs.full.Tie as tie
 
 returns-2 : tie.Need-returns-2
 returns-2 c =

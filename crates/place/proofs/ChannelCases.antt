@@ -18,10 +18,10 @@ use Rattle.payload.specs.declared.layout.Kind.the-variants.{AVoice, ADigits, AS
 use Rattle.payload.specs.declared.layout.TypeFor.{TypeFor}
 use Rattle.payload.specs.declared.layout.TypeFor.the-variants.{Typed, NoType}
 use Rattle.payload.specs.Layout.{familyOf, typeIn, typeFor}
-use Rattle.writer.specs.declared.place.Writer.{Writer}
-use Rattle.writer.specs.declared.place.Channel.the-variants.{Takes, TakesNot}
-use Rattle.writer.specs.Writer.{typedOn, onChannel, channelFor}
-use Rattle.writer.proofs.Tables.{passed}
+use Rattle.place.specs.declared.Writer.{Writer}
+use Rattle.place.specs.declared.Channel.the-variants.{Takes, TakesNot}
+use Rattle.place.specs.Place.{typedOn, onChannel, channelFor}
+use Rattle.place.proofs.Tables.{passed}
 
 -- 24, 4, 11, 12
 module _ (w : Writer) (found : Found) (cid : ℕ) (kind : Kind) where

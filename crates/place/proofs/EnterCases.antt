@@ -11,10 +11,10 @@ use lib.Seq.{take-take, drop-at, length-take-le, take-append-le}
 use Rattle.octets.specs.Made.{Made, made, unmade, fitOf}
 use Rattle.octets.specs.Room.{written}
 use Rattle.joining.specs.Joining.{shortestHeader}
-use Rattle.writer.specs.declared.place.Writer.{Writer}
-use Rattle.writer.specs.declared.place.Entered.the-variants.{Place}
-use Rattle.writer.specs.Writer.{mostNotLast, tooLong, entered}
-use Rattle.writer.proofs.PlaceCases.{never, Placed, placed-back}
+use Rattle.place.specs.declared.Writer.{Writer}
+use Rattle.place.specs.declared.Entered.the-variants.{Place}
+use Rattle.place.specs.Place.{mostNotLast, tooLong, entered}
+use Rattle.place.proofs.PlaceCases.{never, Placed, placed-back}
 
 -- a content that has its place: what its layout makes
 pub record Entry (room : ℕ) (w : Writer) (last : Bool) (cid ptype : ℕ) (m : Made) (start len : ℕ) (next : Writer) : Type 0 where

@@ -11,10 +11,10 @@ use Rattle.refusal.specs.Order.{Test, _gives_}
 use Rattle.octets.proofs.Order.{clash}
 use Rattle.frame.specs.Opening.{mostOctets, mostSubFrames}
 use Rattle.joining.specs.Joining.{headerSize}
-use Rattle.writer.specs.declared.place.Writer.{Writer}
-use Rattle.writer.specs.declared.place.Entered.the-variants.{Place, NoPlace}
-use Rattle.writer.specs.Writer.{tooLong, full, placed}
-use Rattle.writer.proofs.Tables.{passed}
+use Rattle.place.specs.declared.Writer.{Writer}
+use Rattle.place.specs.declared.Entered.the-variants.{Place, NoPlace}
+use Rattle.place.specs.Place.{tooLong, full, placed}
+use Rattle.place.proofs.Tables.{passed}
 
 -- 23
 module _ (w : Writer) (header len : ℕ) where

@@ -1,7 +1,7 @@
--- `writer::place::too_long` meets its contract.
+-- `crate::too_long` meets its contract.
 use borrow.Author.Needs.{needs}
-use Rattle.writer.proofs.place.too_long.Statement.{statement}
-use Rattle.writer.proofs.place.too_long.Tie as tie
+use Rattle.place.proofs.too_long.Statement.{statement}
+use Rattle.place.proofs.too_long.Tie as tie
 
 returns : tie.Need-returns
 returns c = search needs

@@ -1,12 +1,12 @@
--- `writer::place::place` meets its contract: 22, 23, 21, and no sum is made that could pass the largest number.
+-- `crate::place` meets its contract: 22, 23, 21, and no sum is made that could pass the largest number.
 use Prim.Native.Nat.{_+_, _≤_}
 use mathlib.Core.Path.{sym, _∙_}
 use native.Mathlib.Omega.{arith}
 use borrow.Author.Needs.{needs}
 use Rattle.frame.specs.Opening.{mostOctets, mostSubFrames}
-use Rattle.writer.proofs.PlaceCases as cases
-use Rattle.writer.proofs.place.place.Statement.{statement}
-use Rattle.writer.proofs.place.place.Tie as tie
+use Rattle.place.proofs.PlaceCases as cases
+use Rattle.place.proofs.place.Statement.{statement}
+use Rattle.place.proofs.place.Tie as tie
 
 returns : tie.Need-returns
 returns c = cases.long _ _ _ _ _ _ (sym (c .before .too-long .ensures) ∙ c .if1 .taken)

@@ -1,0 +1,4 @@
+pub mod Tables
+pub mod ChannelCases
+pub mod PlaceCases
+pub mod EnterCases
