@@ -26,7 +26,7 @@ pub struct Writer {
 }
 
 // What a sub-channel takes a content as.
-enum Channel {
+pub enum Channel {
     // Its record, and the content's payload type there.
     Takes { rec: Record, ptype: u8 },
     // The refusal number: 24, 4, 11 or 12.
@@ -34,7 +34,7 @@ enum Channel {
 }
 
 // Whether a sub-frame has its place.
-enum Entered {
+pub enum Entered {
     // Where the payload begins, its octets, and the writer after it.
     Place {
         start: usize,
@@ -57,7 +57,7 @@ pub fn fresh() -> Writer
 }
 
 // 24, 4, 11, 12: what the sub-channel takes a content of this kind as.
-fn channel_for(writer: Writer, table: &[u16; 256], cid: u8, kind: Kind) -> Channel
+pub fn channel_for(writer: Writer, table: &[u16; 256], cid: u8, kind: Kind) -> Channel
     ensures { λ r. ⌜ r ≡ channelFor writer (foundAt (now (table .entry)) cid) cid kind ⌝ }
 {
     if writer.done {
@@ -124,7 +124,7 @@ fn place(room: usize, writer: Writer, last: bool, cid: u8, ptype: u8, len: usize
 }
 
 // 13 to 16 for a content that fits so, then 22, 23, 21: whether it has its place.
-fn enter(room: usize, writer: Writer, last: bool, cid: u8, ptype: u8, fit: Fit) -> Entered
+pub fn enter(room: usize, writer: Writer, last: bool, cid: u8, ptype: u8, fit: Fit) -> Entered
     ensures { λ r. ⌜ r ≡ entered room writer last cid ptype fit ⌝ }
 {
     match fit {
@@ -134,7 +134,7 @@ fn enter(room: usize, writer: Writer, last: bool, cid: u8, ptype: u8, fit: Fit) 
 }
 
 // Writes the header before a payload of so many octets: where it tells their number, that is at most 255.
-fn lead(frame: &mut [u8], writer: Writer, last: bool, cid: u8, ptype: u8, len: usize) -> Put
+pub fn lead(frame: &mut [u8], writer: Writer, last: bool, cid: u8, ptype: u8, len: usize) -> Put
     ensures answer { λ r. ⌜ r ≡ headerPut (length (now (frame .entry)) - writer .at) (writer .at) cid ptype last ⌝ }
     ensures holds { λ r. ⌜ now (frame .exit) ≡ leftBy r (now (frame .entry)) (writer .at) (shortestHeader cid ptype last (len % 256)) ⌝ }
 {

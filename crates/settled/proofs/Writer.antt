@@ -1,9 +1,7 @@
 -- One answer only: the public functions of `writer`.
-use mathlib.Core.Path.{refl, sym, _∙_}
+use mathlib.Core.Path.{sym, _∙_}
 use denote.Ref.{now}
-use Rattle.settled.specs.Settled.{OneAnswer, nothing}
-use Rattle.place.proofs.fresh.Kinds as place-fresh-kinds
-use Rattle.place.proofs.fresh.Reads as place-fresh-reads
+use Rattle.settled.specs.Settled.{OneAnswer}
 use Rattle.writer.proofs.primary.write_voice.Kinds as primary-write-voice-kinds
 use Rattle.writer.proofs.primary.write_voice.Reads as primary-write-voice-reads
 use Rattle.writer.proofs.primary.write_data.Kinds as primary-write-data-kinds
@@ -16,9 +14,6 @@ use Rattle.writer.proofs.signalled.write_fax.Kinds as signalled-write-fax-kinds
 use Rattle.writer.proofs.signalled.write_fax.Reads as signalled-write-fax-reads
 use Rattle.writer.proofs.signalled.write_sid.Kinds as signalled-write-sid-kinds
 use Rattle.writer.proofs.signalled.write_sid.Reads as signalled-write-sid-reads
-
-pub place-fresh : OneAnswer 0 place-fresh-kinds.ps place-fresh-kinds.r nothing place-fresh-reads.Post
-place-fresh κs a x y s t p q = (p ∙ sym q, refl)
 
 pub primary-write-voice : OneAnswer 3 primary-write-voice-kinds.ps primary-write-voice-kinds.r (λ κs s. now (s .0)) primary-write-voice-reads.Post
 primary-write-voice κs a x y s t p q = (p .0 ∙ sym (q .0), cc)
