@@ -26,5 +26,5 @@ scan-from κs a x y s t p q = (p ∙ sym q, refl)
 pub check : OneAnswer 1 check-kinds.ps check-kinds.r nothing check-reads.Post
 check κs a x y s t p q = (same x y (p .0 ∙ sym (q .0)) (p .1 .0 ∙ sym (q .1 .0)) (p .1 .1 ∙ sym (q .1 .1)), refl)
 
-pub open : OneAnswer 1 open-kinds.ps open-kinds.r nothing open-reads.Post
-open κs a x y s t p q = (p ∙ sym q, refl)
+pub opened : OneAnswer 1 open-kinds.ps open-kinds.r nothing open-reads.Post
+opened κs a x y s t p q = (p ∙ sym q, refl)
