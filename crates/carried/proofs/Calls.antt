@@ -29,7 +29,7 @@ use Rattle.dialling.specs.declared.Taken as digit-taken
 use Rattle.dialled.specs.declared.Receiver as digit-receiver
 use Rattle.dialled.specs.declared.Received as digit-received
 use Rattle.dialling.specs.Sender.{freshSender, sending}
-use Rattle.dialled.specs.Receiver as dialling
+use Rattle.dialled.specs.Receiver as dialled
 use Rattle.seizing.specs.declared.Entry as signalling-entry
 use Rattle.seizing.specs.declared.Sender as signalling-sender
 use Rattle.seizing.specs.declared.Started as signalling-started
@@ -37,7 +37,7 @@ use Rattle.seizing.specs.declared.Sent as signalling-sent
 use Rattle.seized.specs.declared.Receiver as signalling-receiver
 use Rattle.seized.specs.declared.Received as signalling-received
 use Rattle.seizing.specs.Sender.{started, sent}
-use Rattle.seized.specs.Receiver as seizing
+use Rattle.seized.specs.Receiver as seized
 use Rattle.trunk.specs.declared.Trunk.{Trunk}
 use Rattle.trunk.specs.declared.Told.{Told}
 use Rattle.trunk.specs.Trunk.{freshTrunk, taken}
@@ -144,14 +144,14 @@ digits-sent s0 n0 es0 ps0 (digits-on s n e es x octets ps call puts more) =
 digits-received : (r : digit-receiver.Receiver) (hs : List digits.Heard) (ms : List (Mark Window)) → DigitsReceived r hs ms → ms ≡ digits.marks r hs
 digits-received r0 hs0 ms0 (no-more-heard r) = refl
 digits-received r0 hs0 ms0 (receives-on r p hs x ms call more) =
-    let is : x ≡ dialling.received r (p .octets) =
-    comes-of 1 digit-receive-kinds.ps digit-receive-kinds.r digit-receive-reads.Post _ _ (λ (i : digit-receiver.Receiver × List ℕ). dialling.received (i .0) (i .1)) (λ κs a x s p. p) (r, p .octets) x call
+    let is : x ≡ dialled.received r (p .octets) =
+    comes-of 1 digit-receive-kinds.ps digit-receive-kinds.r digit-receive-reads.Post _ _ (λ (i : digit-receiver.Receiver × List ℕ). dialled.received (i .0) (i .1)) (λ κs a x s p. p) (r, p .octets) x call
     in
     ap (λ (l : List (Mark Window)). digits.marksOf x ++ l) (digits-received (x .receiver) hs ms more)
     ∙ ap (λ (y : digit-received.Received). digits.marksOf y ++ digits.marks (y .receiver) hs) is
 digits-received r0 hs0 ms0 (hears-on r after hs ms call more) =
-    let is : after ≡ dialling.voiceHeard r =
-    comes-of 0 hear-voice-kinds.ps hear-voice-kinds.r hear-voice-reads.Post _ _ (λ (i : digit-receiver.Receiver). dialling.voiceHeard i) (λ κs a x s p. p) r after call
+    let is : after ≡ dialled.voiceHeard r =
+    comes-of 0 hear-voice-kinds.ps hear-voice-kinds.r hear-voice-reads.Post _ _ (λ (i : digit-receiver.Receiver). dialled.voiceHeard i) (λ κs a x s p. p) r after call
     in
     digits-received after hs ms more ∙ ap (λ (q : digit-receiver.Receiver). digits.marks q hs) is
 
@@ -181,8 +181,8 @@ samples-sent s0 n0 es0 ps0 (samples-on s n e es x octets ps call puts more) =
 samples-received : (r : signalling-receiver.Receiver) (ps : List Emission) (ms : List (Mark (List ℕ))) → SignallingReceived r ps ms → ms ≡ signalling.marks r ps
 samples-received r0 ps0 ms0 (no-more-come r) = refl
 samples-received r0 ps0 ms0 (comes-on r p ps x ms call more) =
-    let is : x ≡ seizing.received r (p .octets) =
-    comes-of 1 signalling-receive-kinds.ps signalling-receive-kinds.r signalling-receive-reads.Post _ _ (λ (i : signalling-receiver.Receiver × List ℕ). seizing.received (i .0) (i .1)) (λ κs a x s p. p) (r, p .octets) x call
+    let is : x ≡ seized.received r (p .octets) =
+    comes-of 1 signalling-receive-kinds.ps signalling-receive-kinds.r signalling-receive-reads.Post _ _ (λ (i : signalling-receiver.Receiver × List ℕ). seized.received (i .0) (i .1)) (λ κs a x s p. p) (r, p .octets) x call
     in
     ap (λ (l : List (Mark (List ℕ))). signalling.marksOf x ++ l) (samples-received (x .receiver) ps ms more)
     ∙ ap (λ (y : signalling-received.Received). signalling.marksOf y ++ signalling.marks (y .receiver) ps) is
@@ -227,14 +227,14 @@ digit-calls-carried entries first second marks marks2 calls =
     let sender : calls .sender ≡ freshSender =
     comes-of 0 digit-sender-kinds.ps digit-sender-kinds.r digit-sender-reads.Post _ _ (λ (i : Unit {0}). freshSender) (λ κs a x s p. p) (tt {0}) (calls .sender) (calls .sender-fresh)
     in
-    let is-fresh = comes-of 0 digit-receiver-kinds.ps digit-receiver-kinds.r digit-receiver-reads.Post _ _ (λ (i : Unit {0}). dialling.freshReceiver) (λ κs a x s p. p) (tt {0}) in
+    let is-fresh = comes-of 0 digit-receiver-kinds.ps digit-receiver-kinds.r digit-receiver-reads.Post _ _ (λ (i : Unit {0}). dialled.freshReceiver) (λ κs a x s p. p) (tt {0}) in
     let payloads : calls .payloads ≡ digits.emissions freshSender 0 entries =
     digits-sent (calls .sender) 0 entries (calls .payloads) (calls .sends) ∙ ap (λ (s : digit-sender.Sender). digits.emissions s 0 entries) sender
     in
-    let one : marks ≡ digits.marks dialling.freshReceiver first =
+    let one : marks ≡ digits.marks dialled.freshReceiver first =
     digits-received (calls .receiver) first marks (calls .receives) ∙ ap (λ (r : digit-receiver.Receiver). digits.marks r first) (is-fresh (calls .receiver) (calls .receiver-fresh))
     in
-    let two : marks2 ≡ digits.marks dialling.freshReceiver second =
+    let two : marks2 ≡ digits.marks dialled.freshReceiver second =
     digits-received (calls .receiver2) second marks2 (calls .receives2) ∙ ap (λ (r : digit-receiver.Receiver). digits.marks r second) (is-fresh (calls .receiver2) (calls .receiver2-fresh))
     in
     rw (one, two)
@@ -251,15 +251,15 @@ signalling-calls-carried start entries first second marks marks2 calls =
     let begun : calls .begun ≡ started start =
     comes-of 0 start-kinds.ps start-kinds.r start-reads.Post _ _ (λ (i : ℕ). started i) (λ κs a x s p. p) start (calls .begun) (calls .starts)
     in
-    let is-fresh = comes-of 0 signalling-receiver-kinds.ps signalling-receiver-kinds.r signalling-receiver-reads.Post _ _ (λ (i : Unit {0}). seizing.freshReceiver) (λ κs a x s p. p) (tt {0}) in
+    let is-fresh = comes-of 0 signalling-receiver-kinds.ps signalling-receiver-kinds.r signalling-receiver-reads.Post _ _ (λ (i : Unit {0}). seized.freshReceiver) (λ κs a x s p. p) (tt {0}) in
     let payloads : calls .payloads ≡ signalling.emissions (started start .sender) 0 entries =
     samples-sent (calls .begun .sender) 0 entries (calls .payloads) (calls .sends)
     ∙ ap (λ (b : signalling-started.Started). signalling.emissions (b .sender) 0 entries) begun
     in
-    let one : marks ≡ signalling.marks seizing.freshReceiver first =
+    let one : marks ≡ signalling.marks seized.freshReceiver first =
     samples-received (calls .receiver) first marks (calls .receives) ∙ ap (λ (r : signalling-receiver.Receiver). signalling.marks r first) (is-fresh (calls .receiver) (calls .receiver-fresh))
     in
-    let two : marks2 ≡ signalling.marks seizing.freshReceiver second =
+    let two : marks2 ≡ signalling.marks seized.freshReceiver second =
     samples-received (calls .receiver2) second marks2 (calls .receives2) ∙ ap (λ (r : signalling-receiver.Receiver). signalling.marks r second) (is-fresh (calls .receiver2) (calls .receiver2-fresh))
     in
     rw (one, two)

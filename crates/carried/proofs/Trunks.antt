@@ -28,10 +28,10 @@ use Rattle.signalling.specs.declared.layout.Signalling.{Signalling}
 use Rattle.signalling.specs.declared.layout.SignallingRead.{SignallingRead}
 use Rattle.signalling.specs.Layout.{signallingRead}
 use Rattle.dialled.specs.declared.Receiver as digit-receiver
-use Rattle.dialled.specs.Receiver as dialling
+use Rattle.dialled.specs.Receiver as dialled
 use Rattle.seized.specs.declared.Receiver as signalling-receiver
 use Rattle.seized.specs.declared.Received as signalling-received
-use Rattle.seized.specs.Receiver as seizing
+use Rattle.seized.specs.Receiver as seized
 use Rattle.payload.specs.declared.layout.Layout.{Layout}
 use Rattle.payload.specs.declared.layout.Layout.the-variants.{OfVoice, OfDigits, OfSignalling, OfFax, OfSid, OfData, NoLayout}
 use Rattle.payload.specs.Layout.{layoutOf}
@@ -54,7 +54,7 @@ pub record ToDigits (x : Told) (marks : List (Mark Window)) (after : digit-recei
   pub leaves : x .trunk .digits ≡ after
 
 -- a payload of the sender
-from-digits : (t : Trunk) (read : DigitsRead) → ToDigits (dialledTo t (dialling.receivedBy (t .digits) read)) (digits.marksOf (dialling.receivedBy (t .digits) read)) (dialling.receivedBy (t .digits) read .receiver)
+from-digits : (t : Trunk) (read : DigitsRead) → ToDigits (dialledTo t (dialled.receivedBy (t .digits) read)) (digits.marksOf (dialled.receivedBy (t .digits) read)) (dialled.receivedBy (t .digits) read .receiver)
 from-digits t (Dialled d) = record { appends = refl; leaves = refl }
 from-digits t (BadDigits n) =
     picked (λ (x : Told). ToDigits x [] (t .digits)) (eqb n sound) _ _ (λ e. record { appends = refl; leaves = refl }) (λ e. record { appends = refl; leaves = refl })
@@ -78,7 +78,7 @@ receiverBy r [] = r
 receiverBy r (h ∷ hs) = receiverBy (digits.receiverNext r h) hs
 
 other-to-digits : (l : Layout) (t : Trunk) (p : List ℕ) → ((d : Digits) → readAs l p ≡ reads (dialled d) → ⊥) → ToDigits (takenAs l t p) [] (receiverBy (t .digits) (heardAs l p))
-unfolding dialling.received
+unfolding dialled.received
 other-to-digits (OfVoice r) t p none = go (voiceRead r p)
   where
     go : (read : VoiceRead) → ToDigits (voiceTaken t read) [] (receiverBy (t .digits) (voiceOf read))
@@ -86,12 +86,12 @@ other-to-digits (OfVoice r) t p none = go (voiceRead r p)
     go (BadVoice n) = record { appends = refl; leaves = refl }
 other-to-digits OfDigits t p none = go (digitsRead p) refl
   where
-    go : (read : DigitsRead) → digitsRead p ≡ read → ToDigits (dialledTo t (dialling.receivedBy (t .digits) read)) [] (t .digits)
+    go : (read : DigitsRead) → digitsRead p ≡ read → ToDigits (dialledTo t (dialled.receivedBy (t .digits) read)) [] (t .digits)
     go (Dialled d) e = absurd (none d (ap ofDigits e))
     go (BadDigits n) e =
         picked (λ (x : Told). ToDigits x [] (t .digits)) (eqb n sound) _ _ (λ e. record { appends = refl; leaves = refl }) (λ e. record { appends = refl; leaves = refl })
 other-to-digits OfSignalling t p none =
-    picked (λ (x : Told). ToDigits x [] (t .digits)) (eqb (seizing.received (t .signalling) p .number) sound) _ _ (λ e. record { appends = refl; leaves = refl })
+    picked (λ (x : Told). ToDigits x [] (t .digits)) (eqb (seized.received (t .signalling) p .number) sound) _ _ (λ e. record { appends = refl; leaves = refl })
     (λ e. record { appends = refl; leaves = refl })
 other-to-digits OfFax t p none = go (faxRead p)
   where
@@ -160,8 +160,8 @@ joined-digits {x} {ms} {r} found cs to rest =
     ∙ ap (λ (l : List (Mark Window)). l ++ digits.marks r (runOf found cs)) (to .appends)
 
 came-to-digits : (t : Trunk) (found : Found) (p : List ℕ) → layoutOf found 1 ≡ OfDigits
-    → ToDigits (taken t found 1 p) (digits.marksOf (dialling.received (t .digits) p)) (dialling.received (t .digits) p .receiver)
-unfolding dialling.received
+    → ToDigits (taken t found 1 p) (digits.marksOf (dialled.received (t .digits) p)) (dialled.received (t .digits) p .receiver)
+unfolding dialled.received
 came-to-digits t found p carries = rw (as-layout t found 1 p carries) (from-digits t (digitsRead p))
 
 other-comes-to-digits : (t : Trunk) (found : Found) (ptype : ℕ) (p : List ℕ) → ((d : Digits) → payloadRead found ptype p ≡ reads (dialled d) → ⊥)
@@ -198,28 +198,28 @@ pub record ToSignalling (x : Told) (marks : List (Mark (List ℕ))) (after : sig
   pub leaves : x .trunk .signalling ≡ after
 
 -- a refused payload, whatever its number
-passed-to-signalling : (t : Trunk) (n : ℕ) → ToSignalling (seizedTo t (seizing.passedOver (t .signalling) n)) [] (t .signalling)
+passed-to-signalling : (t : Trunk) (n : ℕ) → ToSignalling (seizedTo t (seized.passedOver (t .signalling) n)) [] (t .signalling)
 passed-to-signalling t n =
     picked (λ (x : Told). ToSignalling x [] (t .signalling)) (eqb n sound) _ _ (λ e. record { appends = refl; leaves = refl }) (λ e. record { appends = refl; leaves = refl })
 
 from-signalling : (t : Trunk) (read : SignallingRead)
-    → ToSignalling (seizedTo t (seizing.receivedBy (t .signalling) read)) (signalling.marksOf (seizing.receivedBy (t .signalling) read)) (seizing.receivedBy (t .signalling) read .receiver)
+    → ToSignalling (seizedTo t (seized.receivedBy (t .signalling) read)) (signalling.marksOf (seized.receivedBy (t .signalling) read)) (seized.receivedBy (t .signalling) read .receiver)
 from-signalling t read =
     picked (λ (got : signalling-received.Received). ToSignalling (seizedTo t got) (signalling.marksOf got) (got .receiver)) (eqb (read .number) sound)
-    (seizing.appended (t .signalling) (read .signalling) (seizing.stepFrom (t .signalling) (read .signalling .sequence)))
-    (seizing.passedOver (t .signalling) (read .number))
+    (seized.appended (t .signalling) (read .signalling) (seized.stepFrom (t .signalling) (read .signalling .sequence)))
+    (seized.passedOver (t .signalling) (read .number))
     (λ e. record { appends = refl; leaves = refl })
     (λ e. passed-to-signalling t (read .number))
 
 other-to-signalling : (l : Layout) (t : Trunk) (p : List ℕ) → ((s : Signalling) → readAs l p ≡ reads (seized s) → ⊥) → ToSignalling (takenAs l t p) [] (t .signalling)
-unfolding seizing.received
+unfolding seized.received
 other-to-signalling (OfVoice r) t p none = go (voiceRead r p)
   where
     go : (read : VoiceRead) → ToSignalling (voiceTaken t read) [] (t .signalling)
     go (Voice sequence coding front) = record { appends = refl; leaves = refl }
     go (BadVoice n) = record { appends = refl; leaves = refl }
 other-to-signalling OfDigits t p none =
-    picked (λ (x : Told). ToSignalling x [] (t .signalling)) (eqb (dialling.received (t .digits) p .number) sound) _ _ (λ e. record { appends = refl; leaves = refl })
+    picked (λ (x : Told). ToSignalling x [] (t .signalling)) (eqb (dialled.received (t .digits) p .number) sound) _ _ (λ e. record { appends = refl; leaves = refl })
     (λ e. record { appends = refl; leaves = refl })
 other-to-signalling OfSignalling t p none =
     picked (λ (got : signalling-received.Received). ToSignalling (seizedTo t got) [] (t .signalling)) (eqb (signallingRead p .number) sound) _ _
@@ -251,8 +251,8 @@ joined-signalling {x} {ms} {r} found cs to rest =
     ∙ ap (λ (l : List (Mark (List ℕ))). l ++ signalling.marks r (payloadsOf cs)) (to .appends)
 
 came-to-signalling : (t : Trunk) (found : Found) (p : List ℕ) → layoutOf found 2 ≡ OfSignalling
-    → ToSignalling (taken t found 2 p) (signalling.marksOf (seizing.received (t .signalling) p)) (seizing.received (t .signalling) p .receiver)
-unfolding seizing.received
+    → ToSignalling (taken t found 2 p) (signalling.marksOf (seized.received (t .signalling) p)) (seized.received (t .signalling) p .receiver)
+unfolding seized.received
 came-to-signalling t found p carries = rw (as-layout t found 2 p carries) (from-signalling t (signallingRead p))
 
 other-comes-to-signalling : (t : Trunk) (found : Found) (ptype : ℕ) (p : List ℕ) → ((s : Signalling) → payloadRead found ptype p ≡ reads (seized s) → ⊥)

@@ -34,9 +34,9 @@ use Rattle.trunk.specs.declared.Told.{Told}
 use Rattle.digits.specs.Layout.{digitsMade}
 use Rattle.signalling.specs.Layout.{signallingMade}
 use Rattle.dialling.specs.Sender.{freshSender, sending}
-use Rattle.dialled.specs.Receiver as dialling
+use Rattle.dialled.specs.Receiver as dialled
 use Rattle.seizing.specs.Sender.{started, sent}
-use Rattle.seized.specs.Receiver as seizing
+use Rattle.seized.specs.Receiver as seized
 use Rattle.trunk.specs.Trunk.{freshTrunk, taken}
 use Rattle.replay.specs.Periods.{Mark, Near, Among, Sublist}
 use Rattle.replay.specs.Claims.{BothReplay}
@@ -76,15 +76,15 @@ pub record Tied : Type 0 where
   pub digit-send : Answers 0 digit-send-kinds.ps digit-send-kinds.r (λ κs a. sending (a .0) (a .1 .0)) digit-send-reads.Post
   pub digits-put : Answers 1 put-digits-kinds.ps put-digits-kinds.r (λ κs a. putMade (now (a .0)) (a .1 .0) (digitsMade (a .1 .1 .0))) put-digits-reads.Post
   pub digits-left : Leaves 1 put-digits-kinds.ps put-digits-kinds.r (λ κs s. now (s .0)) (λ κs a. leftMade (now (a .0)) (a .1 .0) (digitsMade (a .1 .1 .0))) put-digits-reads.Post
-  pub digit-receiver : Answers 0 digit-receiver-kinds.ps digit-receiver-kinds.r (λ κs a. dialling.freshReceiver) digit-receiver-reads.Post
-  pub digit-receive : Answers 1 digit-receive-kinds.ps digit-receive-kinds.r (λ κs a. dialling.received (a .0) (now (a .1 .0))) digit-receive-reads.Post
-  pub hear-voice : Answers 0 hear-voice-kinds.ps hear-voice-kinds.r (λ κs a. dialling.voiceHeard (a .0)) hear-voice-reads.Post
+  pub digit-receiver : Answers 0 digit-receiver-kinds.ps digit-receiver-kinds.r (λ κs a. dialled.freshReceiver) digit-receiver-reads.Post
+  pub digit-receive : Answers 1 digit-receive-kinds.ps digit-receive-kinds.r (λ κs a. dialled.received (a .0) (now (a .1 .0))) digit-receive-reads.Post
+  pub hear-voice : Answers 0 hear-voice-kinds.ps hear-voice-kinds.r (λ κs a. dialled.voiceHeard (a .0)) hear-voice-reads.Post
   pub start : Answers 0 start-kinds.ps start-kinds.r (λ κs a. started (a .0)) start-reads.Post
   pub signalling-send : Answers 0 signalling-send-kinds.ps signalling-send-kinds.r (λ κs a. sent (a .0) (a .1 .0)) signalling-send-reads.Post
   pub signalling-put : Answers 1 put-signalling-kinds.ps put-signalling-kinds.r (λ κs a. putMade (now (a .0)) (a .1 .0) (signallingMade (a .1 .1 .0))) put-signalling-reads.Post
   pub signalling-left : Leaves 1 put-signalling-kinds.ps put-signalling-kinds.r (λ κs s. now (s .0)) (λ κs a. leftMade (now (a .0)) (a .1 .0) (signallingMade (a .1 .1 .0))) put-signalling-reads.Post
-  pub signalling-receiver : Answers 0 signalling-receiver-kinds.ps signalling-receiver-kinds.r (λ κs a. seizing.freshReceiver) signalling-receiver-reads.Post
-  pub signalling-receive : Answers 1 signalling-receive-kinds.ps signalling-receive-kinds.r (λ κs a. seizing.received (a .0) (now (a .1 .0))) signalling-receive-reads.Post
+  pub signalling-receiver : Answers 0 signalling-receiver-kinds.ps signalling-receiver-kinds.r (λ κs a. seized.freshReceiver) signalling-receiver-reads.Post
+  pub signalling-receive : Answers 1 signalling-receive-kinds.ps signalling-receive-kinds.r (λ κs a. seized.received (a .0) (now (a .1 .0))) signalling-receive-reads.Post
   pub trunk : Answers 0 trunk-kinds.ps trunk-kinds.r (λ κs a. freshTrunk) trunk-reads.Post
   pub take : Answers 1 take-kinds.ps take-kinds.r (λ κs a. taken (a .0) (a .1 .0) (a .1 .1 .0) (now (a .1 .1 .1 .0))) take-reads.Post
 
@@ -190,8 +190,8 @@ pub record DigitCalls (entries : List digit-entry.Entry) (first second : List di
   pub receives2 : DigitsReceived receiver2 second marks2
   pub some : Sublist (digits.payloadsOf second) payloads
   pub more : Sublist (digits.payloadsOf first) (digits.payloadsOf second)
-  pub near : Near dialling.farthest (digits.arrivals first)
-  pub near2 : Near dialling.farthest (digits.arrivals second)
+  pub near : Near dialled.farthest (digits.arrivals first)
+  pub near2 : Near dialled.farthest (digits.arrivals second)
 
 abbrev pub DigitCallsCarried : Type 0
 DigitCallsCarried =
@@ -215,8 +215,8 @@ pub record SignallingCalls (start : ℕ) (entries : List signalling-entry.Entry)
   pub some : Sublist first payloads
   pub some2 : Sublist second payloads
   pub more : Among (signalling.arrivals first) (signalling.arrivals second)
-  pub near : Near seizing.farthest (signalling.arrivals first)
-  pub near2 : Near seizing.farthest (signalling.arrivals second)
+  pub near : Near seized.farthest (signalling.arrivals first)
+  pub near2 : Near seized.farthest (signalling.arrivals second)
 
 abbrev pub SignallingCallsCarried : Type 0
 SignallingCallsCarried =

@@ -15,10 +15,10 @@ use Rattle.digits.specs.declared.layout.Digits.{Digits}
 use Rattle.signalling.specs.declared.layout.Signalling.{Signalling}
 use Rattle.dialling.specs.declared.Entry as dialling-entry
 use Rattle.dialling.specs.Sender.{freshSender}
-use Rattle.dialled.specs.Receiver as dialling
+use Rattle.dialled.specs.Receiver as dialled
 use Rattle.seizing.specs.declared.Entry as seizing-entry
 use Rattle.seizing.specs.Sender.{started}
-use Rattle.seized.specs.Receiver as seizing
+use Rattle.seized.specs.Receiver as seized
 use Rattle.payload.specs.declared.layout.Layout.the-variants.{OfDigits, OfSignalling}
 use Rattle.payload.specs.Layout.{layoutOf}
 use Rattle.payload.specs.Content.{dialled, seized, reads, payloadRead}
@@ -85,8 +85,8 @@ pub record DigitsGiven (found : Found) (entries : List dialling-entry.Entry) (fi
   pub carries : layoutOf found 1 ≡ OfDigits
   pub some : Sublist (payloadsOf second) (digits.emissions freshSender 0 entries)
   pub more : Sublist (payloadsOf first) (payloadsOf second)
-  pub near : Near dialling.farthest (arrivals first)
-  pub near2 : Near dialling.farthest (arrivals second)
+  pub near : Near dialled.farthest (arrivals first)
+  pub near2 : Near dialled.farthest (arrivals second)
   pub others : NoDigits found first
   pub others2 : NoDigits found second
 
@@ -104,8 +104,8 @@ pub record SignallingGiven (found : Found) (start : ℕ) (entries : List seizing
   pub some : Sublist (payloadsOf first) (signalling.emissions (started start .sender) 0 entries)
   pub some2 : Sublist (payloadsOf second) (signalling.emissions (started start .sender) 0 entries)
   pub more : Among (arrivals first) (arrivals second)
-  pub near : Near seizing.farthest (arrivals first)
-  pub near2 : Near seizing.farthest (arrivals second)
+  pub near : Near seized.farthest (arrivals first)
+  pub near2 : Near seized.farthest (arrivals second)
   pub others : NoSignalling found first
   pub others2 : NoSignalling found second
 

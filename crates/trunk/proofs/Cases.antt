@@ -6,9 +6,9 @@ use mathlib.Core.Bool.{Bool, true, false, cond}
 use borrow.Author.Tests.{eq-eqb, ne-eqb}
 use Rattle.record.specs.declared.table.Found.{Found}
 use Rattle.dialled.specs.declared.Received as digits
-use Rattle.dialled.specs.Receiver as dialling
+use Rattle.dialled.specs.Receiver as dialled
 use Rattle.seized.specs.declared.Received as signalling
-use Rattle.seized.specs.Receiver as seizing
+use Rattle.seized.specs.Receiver as seized
 use Rattle.payload.specs.declared.layout.Layout.{Layout}
 use Rattle.payload.specs.Layout.{layoutOf}
 use Rattle.trunk.specs.declared.Trunk.{Trunk}
@@ -43,7 +43,7 @@ dialledAs t got seized =
       trunk = record { digits = got .receiver; signalling = t .signalling };
     }
 
-module _ (t : Trunk) (p : List ℕ) (got : digits.Received) (is : got ≡ dialling.received (t .digits) p) where
+module _ (t : Trunk) (p : List ℕ) (got : digits.Received) (is : got ≡ dialled.received (t .digits) p) where
   pub digits-refused : (got .number ≡ 0 → ⊥) → refusing t (got .number) ≡ digitsTaken t p
   digits-refused h = simp (ne-eqb (got .number) 0 h) at (ap (λ (r : digits.Received). dialledTo t r) is)
 
@@ -62,7 +62,7 @@ seizedAs t got dialled =
       trunk = record { digits = t .digits; signalling = got .receiver };
     }
 
-module _ (t : Trunk) (p : List ℕ) (got : signalling.Received) (is : got ≡ seizing.received (t .signalling) p) where
+module _ (t : Trunk) (p : List ℕ) (got : signalling.Received) (is : got ≡ seized.received (t .signalling) p) where
   pub signalling-refused : (got .number ≡ 0 → ⊥) → refusing t (got .number) ≡ signallingTaken t p
   signalling-refused h = simp (ne-eqb (got .number) 0 h) at (ap (λ (r : signalling.Received). seizedTo t r) is)
 

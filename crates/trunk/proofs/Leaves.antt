@@ -25,12 +25,12 @@ use Rattle.digits.specs.declared.layout.DigitsRead.{DigitsRead}
 use Rattle.digits.specs.declared.layout.DigitsRead.the-variants.{Dialled, BadDigits}
 use Rattle.digits.specs.Layout.{digitsRead}
 use Rattle.signalling.specs.Layout.{signallingRead}
-use Rattle.dialled.specs.declared.Receiver as dialling-receiver
+use Rattle.dialled.specs.declared.Receiver as dialled-receiver
 use Rattle.dialled.specs.declared.Received as digits
-use Rattle.dialled.specs.Receiver as dialling
-use Rattle.seized.specs.declared.Receiver as seizing-receiver
+use Rattle.dialled.specs.Receiver as dialled
+use Rattle.seized.specs.declared.Receiver as seized-receiver
 use Rattle.seized.specs.declared.Received as signalling
-use Rattle.seized.specs.Receiver as seizing
+use Rattle.seized.specs.Receiver as seized
 use Rattle.payload.specs.declared.layout.Layout.{Layout}
 use Rattle.payload.specs.declared.layout.Layout.the-variants.{OfVoice, OfDigits, OfSignalling, OfFax, OfSid, OfData, NoLayout}
 use Rattle.payload.specs.Layout.{layoutOf}
@@ -43,7 +43,7 @@ use Rattle.trunk.specs.Claims.{NumberIsReadings, RefusedStands, Leaves}
 
 -- the trunk after each kind of payload
 abbrev Ends : Trunk → VoiceRead → Type 0
-Ends t read = voiceTaken t read .number ≡ sound → voiceTaken t read .trunk ≡ record { digits = dialling.voiceHeard (t .digits); signalling = t .signalling }
+Ends t read = voiceTaken t read .number ≡ sound → voiceTaken t read .trunk ≡ record { digits = dialled.voiceHeard (t .digits); signalling = t .signalling }
 
 -- by the number of a voice payload, which no refusal has as 0
 voice-leaves : (t : Trunk) (r : Record) (p : List ℕ) → Ends t (voiceRead r p)
@@ -52,30 +52,30 @@ voice-leaves t r p =
     subst (Ends t) (sym (order.by-number BadVoice _ (readRefusals r p) (tt, (tt, (tt, (tt, (tt, (tt, tt))))))))
     (picked (Ends t) (eqb (order.numberOf (readRefusals r p)) 0) _ _ (λ h none. refl) (λ h none. absurd (eqb-false (order.numberOf (readRefusals r p)) 0 h none)))
 
-untoned : (r : dialling-receiver.Receiver) → r .on ≡ false → r .code ≡ 0 → dialling.voiceHeard r ≡ r
+untoned : (r : dialled-receiver.Receiver) → r .on ≡ false → r .code ≡ 0 → dialled.voiceHeard r ≡ r
 untoned r off none = sym (ap₂ (λ (on : Bool) (code : ℕ). record { heard = r .heard; last = r .last; on = on; code = code }) off none)
 
 voice-untoned : (t : Trunk) (read : VoiceRead) → t .digits .on ≡ false → t .digits .code ≡ 0 → voiceTaken t read .trunk ≡ t
-voice-untoned t (Voice sequence coding front) off none = ap (λ (r : dialling-receiver.Receiver). record { digits = r; signalling = t .signalling }) (untoned (t .digits) off none)
+voice-untoned t (Voice sequence coding front) off none = ap (λ (r : dialled-receiver.Receiver). record { digits = r; signalling = t .signalling }) (untoned (t .digits) off none)
 voice-untoned t (BadVoice number) off none = refl
 
-digits-leave : (t : Trunk) (read : DigitsRead) → dialledTo t (dialling.receivedBy (t .digits) read) .trunk ≡ record { digits = dialling.receivedBy (t .digits) read .receiver; signalling = t .signalling }
+digits-leave : (t : Trunk) (read : DigitsRead) → dialledTo t (dialled.receivedBy (t .digits) read) .trunk ≡ record { digits = dialled.receivedBy (t .digits) read .receiver; signalling = t .signalling }
 digits-leave t (Dialled d) = refl
 digits-leave t (BadDigits n) = picked (λ (x : Told). x .trunk ≡ t) (eqb n sound) _ _ (λ h. refl) (λ h. refl)
 
-digit-trunk : (t : Trunk) (p : List ℕ) → takenAs OfDigits t p .trunk ≡ record { digits = dialling.received (t .digits) p .receiver; signalling = t .signalling }
-unfolding dialling.received
+digit-trunk : (t : Trunk) (p : List ℕ) → takenAs OfDigits t p .trunk ≡ record { digits = dialled.received (t .digits) p .receiver; signalling = t .signalling }
+unfolding dialled.received
 digit-trunk t p = digits-leave t (digitsRead p)
 
-passed-over-leaves : (t : Trunk) (n : ℕ) → seizedTo t (seizing.passedOver (t .signalling) n) .trunk ≡ t
+passed-over-leaves : (t : Trunk) (n : ℕ) → seizedTo t (seized.passedOver (t .signalling) n) .trunk ≡ t
 passed-over-leaves t n = picked (λ (x : Told). x .trunk ≡ t) (eqb n sound) _ _ (λ h. refl) (λ h. refl)
 
-signalling-trunk : (t : Trunk) (p : List ℕ) → takenAs OfSignalling t p .trunk ≡ record { digits = t .digits; signalling = seizing.received (t .signalling) p .receiver }
-unfolding seizing.received
+signalling-trunk : (t : Trunk) (p : List ℕ) → takenAs OfSignalling t p .trunk ≡ record { digits = t .digits; signalling = seized.received (t .signalling) p .receiver }
+unfolding seized.received
 signalling-trunk t p =
     picked (λ (got : signalling.Received). seizedTo t got .trunk ≡ record { digits = t .digits; signalling = got .receiver }) (eqb (signallingRead p .number) sound)
-    (seizing.appended (t .signalling) (signallingRead p .signalling) (seizing.stepFrom (t .signalling) (signallingRead p .signalling .sequence)))
-    (seizing.passedOver (t .signalling) (signallingRead p .number))
+    (seized.appended (t .signalling) (signallingRead p .signalling) (seized.stepFrom (t .signalling) (signallingRead p .signalling .sequence)))
+    (seized.passedOver (t .signalling) (signallingRead p .number))
     (λ h. refl)
     (λ h. passed-over-leaves t (signallingRead p .number))
 
@@ -100,20 +100,20 @@ seized-number : (t : Trunk) (got : signalling.Received) → seizedTo t got .numb
 seized-number t got =
     picked (λ (x : Told). x .number ≡ got .number) (eqb (got .number) sound) _ _ (λ h. sym (eqb-true (got .number) sound h)) (λ h. refl)
 
-digits-number : (r : dialling-receiver.Receiver) (read : DigitsRead) → dialling.receivedBy r read .number ≡ numberOf (ofDigits read)
+digits-number : (r : dialled-receiver.Receiver) (read : DigitsRead) → dialled.receivedBy r read .number ≡ numberOf (ofDigits read)
 digits-number r (Dialled d) = refl
 digits-number r (BadDigits number) = refl
 
-received-number : (r : dialling-receiver.Receiver) (p : List ℕ) → dialling.received r p .number ≡ numberOf (ofDigits (digitsRead p))
-unfolding dialling.received
+received-number : (r : dialled-receiver.Receiver) (p : List ℕ) → dialled.received r p .number ≡ numberOf (ofDigits (digitsRead p))
+unfolding dialled.received
 received-number r p = digits-number r (digitsRead p)
 
 both-ways : (b : Bool) (x y : signalling.Received) (u v : Reading) → x .number ≡ numberOf u → y .number ≡ numberOf v → cond b x y .number ≡ numberOf (cond b u v)
 both-ways true x y u v p q = p
 both-ways false x y u v p q = q
 
-signalling-number : (r : seizing-receiver.Receiver) (p : List ℕ) → seizing.received r p .number ≡ numberOf (ofSignalling (signallingRead p))
-unfolding seizing.received
+signalling-number : (r : seized-receiver.Receiver) (p : List ℕ) → seized.received r p .number ≡ numberOf (ofSignalling (signallingRead p))
+unfolding seized.received
 signalling-number r p = both-ways (eqb (signallingRead p .number) sound) _ _ _ _ refl refl
 
 number-as : (l : Layout) (t : Trunk) (p : List ℕ) → takenAs l t p .number ≡ numberOf (readAs l p)
@@ -122,8 +122,8 @@ number-as (OfVoice r) t p = number (voiceRead r p)
     number : (read : VoiceRead) → voiceTaken t read .number ≡ numberOf (ofVoice p read)
     number (Voice sequence coding front) = refl
     number (BadVoice n) = refl
-number-as OfDigits t p = dialled-number t (dialling.received (t .digits) p) ∙ received-number (t .digits) p
-number-as OfSignalling t p = seized-number t (seizing.received (t .signalling) p) ∙ signalling-number (t .signalling) p
+number-as OfDigits t p = dialled-number t (dialled.received (t .digits) p) ∙ received-number (t .digits) p
+number-as OfSignalling t p = seized-number t (seized.received (t .signalling) p) ∙ signalling-number (t .signalling) p
 number-as OfFax t p = number (faxRead p)
   where
     number : (read : FaxRead) → faxTaken t read .number ≡ numberOf (ofFax p read)
@@ -155,8 +155,8 @@ stood-as (OfVoice r) t p = stood (voiceRead r p)
     stood : (read : VoiceRead) → Stood t (voiceTaken t read)
     stood (Voice sequence coding front) h = absurd (h refl)
     stood (BadVoice n) h = refl
-stood-as OfDigits t p = picked (Stood t) (eqb (dialling.received (t .digits) p .number) sound) _ _ (λ e h. absurd (h refl)) (λ e h. refl)
-stood-as OfSignalling t p = picked (Stood t) (eqb (seizing.received (t .signalling) p .number) sound) _ _ (λ e h. absurd (h refl)) (λ e h. refl)
+stood-as OfDigits t p = picked (Stood t) (eqb (dialled.received (t .digits) p .number) sound) _ _ (λ e h. absurd (h refl)) (λ e h. refl)
+stood-as OfSignalling t p = picked (Stood t) (eqb (seized.received (t .signalling) p .number) sound) _ _ (λ e h. absurd (h refl)) (λ e h. refl)
 stood-as OfFax t p = stood (faxRead p)
   where
     stood : (read : FaxRead) → Stood t (faxTaken t read)

@@ -7,8 +7,8 @@ use Rattle.refusal.specs.Numbers.{sound}
 use Rattle.record.specs.declared.syntax.Record.{Record}
 use Rattle.record.specs.declared.syntax.Syntax.{Syntax}
 use Rattle.record.specs.declared.table.Found.{Found}
-use Rattle.dialled.specs.Receiver as dialling
-use Rattle.seized.specs.Receiver as seizing
+use Rattle.dialled.specs.Receiver as dialled
+use Rattle.seized.specs.Receiver as seized
 use Rattle.payload.specs.declared.layout.Layout.the-variants.{OfVoice, OfDigits, OfSignalling, OfFax, OfSid, OfData}
 use Rattle.payload.specs.Content.{payloadRead, numberOf}
 use Rattle.payload.specs.Layout.{layoutOf}
@@ -34,9 +34,9 @@ pub record Leaves : Type 0 where
   pub fax : (t : Trunk) (found : Found) (ptype : ℕ) (p : List ℕ) → layoutOf found ptype ≡ OfFax → taken t found ptype p .trunk ≡ t
   pub fragments : (t : Trunk) (found : Found) (ptype : ℕ) (p : List ℕ) → layoutOf found ptype ≡ OfData → taken t found ptype p .trunk ≡ t
   -- a digits payload leaves the signalling receiver, and the digit receiver is then as after `received`
-  pub digits : (t : Trunk) (found : Found) (ptype : ℕ) (p : List ℕ) → layoutOf found ptype ≡ OfDigits → taken t found ptype p .trunk ≡ record { digits = dialling.received (t .digits) p .receiver; signalling = t .signalling }
+  pub digits : (t : Trunk) (found : Found) (ptype : ℕ) (p : List ℕ) → layoutOf found ptype ≡ OfDigits → taken t found ptype p .trunk ≡ record { digits = dialled.received (t .digits) p .receiver; signalling = t .signalling }
   -- a signalling payload leaves the digit receiver, and the signalling receiver is then as after `received`
-  pub signalling : (t : Trunk) (found : Found) (ptype : ℕ) (p : List ℕ) → layoutOf found ptype ≡ OfSignalling → taken t found ptype p .trunk ≡ record { digits = t .digits; signalling = seizing.received (t .signalling) p .receiver }
+  pub signalling : (t : Trunk) (found : Found) (ptype : ℕ) (p : List ℕ) → layoutOf found ptype ≡ OfSignalling → taken t found ptype p .trunk ≡ record { digits = t .digits; signalling = seized.received (t .signalling) p .receiver }
   -- accepted voice leaves the signalling receiver, and of the digit receiver all but the tone: that is then off
   pub voice : (t : Trunk) (found : Found) (ptype : ℕ) (p : List ℕ) (r : Record) → layoutOf found ptype ≡ OfVoice r → taken t found ptype p .number ≡ sound → taken t found ptype p .trunk ≡ record { digits = record { heard = t .digits .heard; last = t .digits .last; on = false; code = 0 }; signalling = t .signalling }
   -- where no tone sounds and its code is 0, as every payload leaves it, voice leaves the whole trunk

@@ -21,9 +21,9 @@ use Rattle.fax.specs.declared.FaxRead.the-variants.{Fax, BadFax}
 use Rattle.fax.specs.Fax.{faxRead}
 use Rattle.digits.specs.Layout.{offWindow}
 use Rattle.dialled.specs.declared.Received as digits
-use Rattle.dialled.specs.Receiver as dialling
+use Rattle.dialled.specs.Receiver as dialled
 use Rattle.seized.specs.declared.Received as signalling
-use Rattle.seized.specs.Receiver as seizing
+use Rattle.seized.specs.Receiver as seized
 use Rattle.payload.specs.declared.layout.Layout.{Layout}
 use Rattle.payload.specs.declared.layout.Layout.the-variants.{OfVoice, OfDigits, OfSignalling, OfFax, OfSid, OfData, NoLayout}
 use Rattle.payload.specs.Layout.{layoutOf}
@@ -36,7 +36,7 @@ use Rattle.trunk.specs.declared.Told.{Told}
 
 -- both receivers as they are before anything has come
 abbrev pub freshTrunk : Trunk
-freshTrunk = record { digits = dialling.freshReceiver; signalling = seizing.freshReceiver }
+freshTrunk = record { digits = dialled.freshReceiver; signalling = seized.freshReceiver }
 
 -- what a receiver appends to which nothing has come: "unused places off or 0"
 abbrev pub nothingDialled : Dialled
@@ -57,7 +57,7 @@ passing t heard = record { number = sound; heard = heard; dialled = nothingDiall
 -- "An accepted type 0 voice payload ends a sounding tone".
 abbrev pub voiceTaken : Trunk → VoiceRead → Told
 voiceTaken t (Voice sequence coding front) =
-    passing (record { digits = dialling.voiceHeard (t .digits); signalling = t .signalling }) HeardVoice
+    passing (record { digits = dialled.voiceHeard (t .digits); signalling = t .signalling }) HeardVoice
 voiceTaken t (BadVoice number) = refusing t number
 
 -- a digits payload, by what the digit receiver answers
@@ -74,7 +74,7 @@ dialledTo t got =
     (refusing t (got .number))
 
 abbrev pub digitsTaken : Trunk → List ℕ → Told
-digitsTaken t payload = dialledTo t (dialling.received (t .digits) payload)
+digitsTaken t payload = dialledTo t (dialled.received (t .digits) payload)
 
 -- a signalling payload, by what the signalling receiver answers
 abbrev pub seizedTo : Trunk → signalling.Received → Told
@@ -90,7 +90,7 @@ seizedTo t got =
     (refusing t (got .number))
 
 abbrev pub signallingTaken : Trunk → List ℕ → Told
-signallingTaken t payload = seizedTo t (seizing.received (t .signalling) payload)
+signallingTaken t payload = seizedTo t (seized.received (t .signalling) payload)
 
 -- fax, silence and data
 abbrev pub faxTaken : Trunk → FaxRead → Told
