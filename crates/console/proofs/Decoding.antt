@@ -13,7 +13,7 @@ use Rattle.io.specs.Counts.{Counts}
 use Rattle.refusal.specs.Order.{_or_}
 use Rattle.octets.specs.Room.{written}
 use Rattle.octets.proofs.Writes as writes
-use Rattle.recording.specs.Hex.{hexValue}
+use Rattle.hexline.specs.Hex.{hexValue}
 use Rattle.console.specs.declared.hex.Decoded.{Decoded}
 use Rattle.console.specs.Hex.{leading, decoded}
 

@@ -6,7 +6,7 @@ use lib.Dec.{ltb, leb, eqb}
 use lib.IntN.{ℤ, pos, negsuc}
 use lib.ListN.{length}
 use Rattle.refusal.specs.Order.{_or_}
-use Rattle.recording.specs.Hex.{hexValue, isOther}
+use Rattle.hexline.specs.Hex.{hexValue, isOther}
 use Rattle.console.specs.declared.hex.Decoded.{Decoded}
 
 -- the octets of the pairs of hex characters that a text starts with

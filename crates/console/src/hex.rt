@@ -3,7 +3,7 @@ ghost use mathlib.Core.Path.{_≡_};
 ghost use lib.ListN.{length, take, drop};
 ghost use Rattle.io.specs.Counts.{Counts};
 ghost use Rattle.octets.specs.Room.{written};
-ghost use Rattle.recording.specs.Hex.{hexValue};
+ghost use Rattle.hexline.specs.Hex.{hexValue};
 ghost use Rattle.console.specs.Hex.{leading, decoded, signedOf};
 
 // Whether the characters are pairs of hex digits that the room takes, and how many octets they are.

@@ -14,8 +14,8 @@ use Rattle.payload.specs.Layout.{onVoice, onFax, onData}
 use Rattle.digits.specs.Layout.{digitsRead}
 use Rattle.dialled.specs.Receiver.{received}
 use Rattle.trunk.specs.Trunk.{taken}
-use Rattle.recording.specs.Hex.{hexValue, anyOther, paired}
-use Rattle.recording.specs.Line.{lineRead}
+use Rattle.hexline.specs.Hex.{hexValue, anyOther, paired}
+use Rattle.hexline.specs.Line.{lineRead}
 use Rattle.recording.specs.Pieces.{textFrom, lineSize}
 use Rattle.recording.specs.Walk.{linesTold}
 use Rattle.recording.specs.Input.{inputPrinted}

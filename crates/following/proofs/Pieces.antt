@@ -3,7 +3,7 @@
 use Prim.Native.Nat.{ℕ}
 use mathlib.Core.Path.{ap}
 use mathlib.Core.List.{List}
-use Rattle.recording.specs.Line.{Held}
+use Rattle.hexline.specs.Line.{Held}
 use Rattle.recording.specs.Claims.{ByStart}
 use Rattle.recording.proofs.LineStart as line
 use Rattle.recording.proofs.InputStart as inputs

@@ -9,14 +9,15 @@ use lib.Dec.{ltb}
 use lib.ListN.{length, take, drop}
 use Rattle.octets.specs.Room.{written}
 use Rattle.octets.specs.Text.{hasLf}
-use Rattle.recording.specs.declared.line.Read.{Read}
+use Rattle.hexline.specs.declared.Read.{Read}
 use Rattle.recording.specs.declared.stream.Begun.{Begun}
 use Rattle.recording.specs.declared.stream.Taken.{Taken}
-use Rattle.recording.specs.Line.{octets, lineRead, inRoom, readOf, octetsOf}
+use Rattle.hexline.specs.Line.{octets, lineRead, inRoom, readOf, octetsOf}
 use Rattle.recording.specs.Stream.{lineOf, heldBy, keptBehind}
 use Rattle.recording.specs.Stream.{taken as lineTaken}
 use Rattle.recording.specs.Walk.{Told, Walk, nothing, nextTold}
 use Rattle.recording.proofs.Ends as ends
+use Rattle.octets.proofs.Writes as writes
 use Rattle.recording.proofs.Keeping as keeping
 use Rattle.recording.proofs.Walks as walks
 use Rattle.trunk.specs.declared.Trunk.{Trunk}
@@ -105,7 +106,7 @@ module _ (table : List ℕ) (cid : ℕ) (begun : Begun) (kept : List ℕ) (t : T
   pub none-kept : begun .have ≡ 0 → LastPromised 0 out
   none-kept h =
       let is = ap (λ (told : Told Trunk). told .text) (walks.last-none (lineFollowing table cid) 20032 (length out) begun kept t h) in
-      as-text [] (sym is) refl (sym (keeping.written-none out 0))
+      as-text [] (sym is) refl (sym (writes.written-none out 0))
 
   module _ (some : begun .have ≡ 0 → ⊥) where
     is-some :
@@ -114,7 +115,7 @@ module _ (table : List ℕ) (cid : ℕ) (begun : Begun) (kept : List ℕ) (t : T
     is-some = walks.last-text (lineFollowing table cid) 20032 (length out) begun kept t some
 
     pub no-room : length out < 20032 → LastPromised 0 out
-    no-room short = as-text [] (rw (lt-ltb (length out) 20032 short) at (sym is-some)) refl (sym (keeping.written-none out 0))
+    no-room short = as-text [] (rw (lt-ltb (length out) 20032 short) at (sym is-some)) refl (sym (writes.written-none out 0))
 
     pub last :
         {end : ℕ} {read : Read} {frame′ after : List ℕ} {r : Shown} (frame : List ℕ)

@@ -15,12 +15,12 @@ use Rattle.frame.specs.Opening.{opening}
 use Rattle.frame.proofs.Chain as chain
 use Rattle.record.specs.declared.table.Found.{Found}
 use Rattle.record.specs.Record.{foundAt}
-use Rattle.recording.specs.declared.line.Read.{Read}
-use Rattle.recording.specs.Line.{Held, octets, lineRead, inRoom, readOf, octetsOf}
-use Rattle.recording.specs.Line.{refused as refusedLine}
+use Rattle.hexline.specs.declared.Read.{Read}
+use Rattle.hexline.specs.Line.{Held, octets, lineRead, inRoom, readOf, octetsOf}
+use Rattle.hexline.specs.Line.{refused as refusedLine}
 use Rattle.recording.specs.Walk.{Told, nothing, behind}
-use Rattle.recording.proofs.LineCases as cases
-use Rattle.recording.proofs.LineCases.{Fair}
+use Rattle.hexline.proofs.LineCases as cases
+use Rattle.hexline.proofs.LineCases.{Fair}
 use Rattle.trunk.specs.declared.Trunk.{Trunk}
 use Rattle.trunk.specs.declared.Told as trunks
 use Rattle.trunk.specs.Trunk.{taken}

@@ -20,8 +20,8 @@ use Rattle.trunk.specs.declared.Dialled.{Dialled}
 use Rattle.trunk.specs.declared.Seized.{Seized}
 use Rattle.trunk.specs.declared.Told as trunks
 use Rattle.trunk.specs.Trunk as trunk
-use Rattle.recording.specs.Line.{Held, octets, lineRead}
-use Rattle.recording.specs.Line.{refused as refusedLine}
+use Rattle.hexline.specs.Line.{Held, octets, lineRead}
+use Rattle.hexline.specs.Line.{refused as refusedLine}
 use Rattle.recording.specs.Walk.{Told, nothing, behind}
 use Rattle.recording.specs.Input.{Program, inputPrinted}
 use Rattle.printing.specs.Field.{field, hexField}

@@ -7,7 +7,7 @@ use lib.Dec.{eqb}
 use lib.ListN.{take}
 use Rattle.refusal.specs.Numbers.{sound}
 use Rattle.octets.specs.Text.{ascii}
-use Rattle.recording.specs.declared.line.Read.{Read}
+use Rattle.hexline.specs.declared.Read.{Read}
 use Rattle.recording.specs.Walk.{Told}
 use Rattle.trunk.specs.declared.Trunk.{Trunk}
 use Rattle.printing.specs.Field.{hexField}

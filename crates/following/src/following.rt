@@ -1,8 +1,8 @@
 // A line of a recording as one sub-channel's trunk takes it (docs/FOLLOW.md).
 use header::SubFrame;
+use hexline::Read;
 use printing::field::put_field;
 use printing::refused::put_refused;
-use recording::line::Read;
 use trunk::Told;
 use trunk::Trunk;
 ghost use mathlib.Core.Path.{_≡_};

@@ -116,7 +116,7 @@ pub fn follow_last(
     let room: &[u8] = kept;
     let end = octets::least(have, room.len());
     let mut frame = [0u8; 1600];
-    let read = recording::line::read_line(&room[..end], &mut frame);
+    let read = hexline::read_line(&room[..end], &mut frame);
     let shown = crate::following::put_read(out, 0, begun.number, table, cid, read, &frame, trunk);
     shown.next
 }

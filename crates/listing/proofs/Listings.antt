@@ -12,8 +12,8 @@ use lib.Seq.{take-suc, take-at}
 use Rattle.refusal.specs.Numbers.{sound, roomTooSmall}
 use Rattle.octets.specs.declared.Put.the-variants.{Written, NotWritten}
 use Rattle.octets.specs.Room.{written, leftBy}
-use Rattle.recording.proofs.LineCases as cases
-use Rattle.recording.proofs.LineCases.{Fair}
+use Rattle.hexline.proofs.LineCases as cases
+use Rattle.hexline.proofs.LineCases.{Fair}
 use Rattle.header.specs.declared.SubFrame.{SubFrame}
 use Rattle.header.specs.Header.{endOf}
 use Rattle.frame.specs.Opening.{opening}
@@ -21,8 +21,8 @@ use Rattle.record.specs.declared.table.Found.{Found}
 use Rattle.record.specs.Record.{foundAt}
 use Rattle.payload.specs.Content.{payloadRead, numberOf}
 use Rattle.octets.specs.Text.{ascii}
-use Rattle.recording.specs.declared.line.Read.{Read}
-use Rattle.recording.specs.Line.{Held, octets, refused, lineRead, inRoom, readOf, octetsOf}
+use Rattle.hexline.specs.declared.Read.{Read}
+use Rattle.hexline.specs.Line.{Held, octets, refused, lineRead, inRoom, readOf, octetsOf}
 use Rattle.listing.specs.Listing.{fourFields, numberFor, subListing, subsListing, openedListing, frameListing, readListing, lineListing, listed}
 use Rattle.printing.specs.Field.{field}
 use Rattle.printing.specs.Refused.{refusedListing}

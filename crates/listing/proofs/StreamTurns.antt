@@ -13,11 +13,12 @@ use Rattle.octets.specs.Room.{written, leftBy}
 use Rattle.octets.specs.Text.{hasLf}
 use Rattle.recording.specs.declared.stream.Begun.{Begun}
 use Rattle.recording.specs.declared.stream.Taken.{Taken}
-use Rattle.recording.specs.Line.{octets, lineRead, inRoom, readOf, octetsOf}
+use Rattle.hexline.specs.Line.{octets, lineRead, inRoom, readOf, octetsOf}
 use Rattle.recording.specs.Stream.{lineOf, heldBy, keptBehind}
 use Rattle.recording.specs.Stream.{taken as lineTaken}
 use Rattle.recording.specs.Walk.{Told, Walk, nothing, nextTold}
 use Rattle.recording.proofs.Ends as ends
+use Rattle.octets.proofs.Writes as writes
 use Rattle.recording.proofs.Keeping as keeping
 use Rattle.recording.proofs.Walks as walks
 use Rattle.listing.specs.declared.stream.Listed.{Listed}
@@ -105,7 +106,7 @@ module _ (out text : List ℕ) where
       → after ≡ leftBy r out 0 text
       → r ≡ NotWritten number
       → Stands short 0 after
-  not-written true says holds e = (refl, holds ∙ ap (λ (a : Put). leftBy a out 0 text) e ∙ sym (keeping.written-none out 0))
+  not-written true says holds e = (refl, holds ∙ ap (λ (a : Put). leftBy a out 0 text) e ∙ sym (writes.written-none out 0))
   not-written false says holds e = let z : _≡_ {A = ℕ} 0 1 = cc in absurd (omega arith)
 
 -- the last line, from what `list_line` answers
@@ -119,7 +120,7 @@ module _ (table : List ℕ) (begun : Begun) (kept out : List ℕ) where
       let text : lastListed (length out) table begun kept ≡ [] =
       ap (λ (t : Told (Unit {0})). t .text) (walks.last-none (tellLine table) 6709 (length out) begun kept tt h)
       in
-      rw text (refl, sym (keeping.written-none out 0))
+      rw text (refl, sym (writes.written-none out 0))
 
   module _ (some : begun .have ≡ 0 → ⊥) {end : ℕ} (cut : end ≡ min (begun .have) (length kept)) {r : Put} {after : List ℕ}
       (says : r ≡ listed out 0 (lineListing (begun .number) table (take end kept)))

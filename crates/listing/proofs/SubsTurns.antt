@@ -13,7 +13,7 @@ use Rattle.listing.specs.Listing.{subListing, subsListing}
 use Rattle.printing.specs.Room.{Appended}
 use Rattle.printing.proofs.Appending as appending
 use Rattle.listing.proofs.Listings as listings
-use Rattle.recording.proofs.Keeping as keeping
+use Rattle.octets.proofs.Writes as writes
 
 pub record Going (table s out₀ out : List ℕ) (at next place i : ℕ) : Type 0 where
   pub within : i ≤ length (opening s .subs)
@@ -26,7 +26,7 @@ begins table s out at =
     record {
       within = omega arith;
       rest = chain.opening-fine s .chain;
-      stands = record { ends = omega arith; holds = sym (keeping.written-none out at); size = omega arith };
+      stands = record { ends = omega arith; holds = sym (writes.written-none out at); size = omega arith };
     }
 
 pub few : (s : List ℕ) → length (opening s .subs) ≤ 64

@@ -12,8 +12,8 @@ use Rattle.header.specs.declared.SubFrame.{SubFrame}
 use Rattle.frame.specs.Opening.{Opening, opening}
 use Rattle.record.specs.Record.{foundAt}
 use Rattle.payload.specs.Content.{payloadRead, numberOf}
-use Rattle.recording.specs.Line.{Held, octets, lineRead}
-use Rattle.recording.specs.Line.{refused as refusedLine}
+use Rattle.hexline.specs.Line.{Held, octets, lineRead}
+use Rattle.hexline.specs.Line.{refused as refusedLine}
 use Rattle.recording.specs.Walk.{Tell}
 use Rattle.recording.specs.Input.{Program, inputPrinted}
 use Rattle.printing.specs.Field.{field}

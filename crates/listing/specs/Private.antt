@@ -5,7 +5,7 @@ use mathlib.Core.Bool.{cond}
 use lib.Dec.{eqb}
 use lib.ListN.{take}
 use Rattle.refusal.specs.Numbers.{sound}
-use Rattle.recording.specs.declared.line.Read.{Read}
+use Rattle.hexline.specs.declared.Read.{Read}
 use Rattle.printing.specs.Refused.{refusedListing}
 use Rattle.listing.specs.Listing.{frameListing}
 

@@ -1,10 +1,10 @@
 // The listing of a line (document 01, "Listing program").
 use header::SubFrame;
+use hexline::Read;
 use octets::Put;
 use printing::field::put_field;
 use printing::field::put_octet_field;
 use printing::refused::put_refused;
-use recording::line::Read;
 ghost use mathlib.Core.Path.{_≡_};
 ghost use Prim.Native.Nat.{_+_, _≤_};
 ghost use lib.ListN.{length};
@@ -109,6 +109,6 @@ pub(crate) fn list_line(out: &mut [u8], at: usize, n: u64, table: &[u16; 256], l
         return Put::NotWritten(refusal::ROOM_TOO_SMALL);
     }
     let mut frame = [0u8; 1600];
-    let read = recording::line::read_line(line, &mut frame);
+    let read = hexline::read_line(line, &mut frame);
     Put::Written(put_read(out, at, n, table, read, &frame))
 }

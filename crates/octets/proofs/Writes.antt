@@ -41,6 +41,12 @@ module _ (array₀ from array : List ℕ) (i : ℕ) (as-many : length array₀ �
       ∙ ap (λ (l : List ℕ). from ++ l) (drop-of-length-le array₀ none)
       ∙ append-nil from
 
+-- nothing is written
+pub written-none : (room : List ℕ) (at : ℕ) → written room at [] ≡ room
+written-none room at =
+    let zero : at + 0 ≡ at = omega arith in
+    rw (append-nil, zero) (take-append-drop at room)
+
 pub length-written : (room octets : List ℕ) (at : ℕ) → at + length octets ≤ length room → length (written room at octets) ≡ length room
 length-written room octets at fits =
     let front : length (take at room) ≡ at = length-take-le at room (omega arith) in

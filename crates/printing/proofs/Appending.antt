@@ -12,7 +12,6 @@ use lib.Seq.{take-suc, take-all}
 use Rattle.octets.specs.Room.{written}
 use Rattle.octets.specs.Text.{ascii}
 use Rattle.octets.proofs.Writes as writes
-use Rattle.recording.proofs.Keeping as keeping
 use Rattle.printing.specs.Decimal.{decimal}
 use Rattle.printing.specs.Hex.{hexPair, hexOf}
 use Rattle.printing.specs.Field.{field, hexField}
@@ -57,7 +56,7 @@ module _ {before mid text : List ℕ} {at most next : ℕ} (first : Appended bef
 
 -- nothing, and one octet
 pub none : (out : List ℕ) (at : ℕ) → Appended out at [] 0 out at
-none out at = record { ends = omega arith; holds = sym (keeping.written-none out at); size = omega arith }
+none out at = record { ends = omega arith; holds = sym (writes.written-none out at); size = omega arith }
 
 pub one : (out : List ℕ) (at octet : ℕ) → at + 1 ≤ length out → Appended out at (octet ∷ []) 1 (set out at octet) (at + 1)
 one out at octet room = record { ends = refl; holds = writes.one-stored out at octet room; size = omega arith }
@@ -98,7 +97,7 @@ module _ (most : ℕ) (before text : List ℕ) (at : ℕ) where
 
     pub put-none : short ≡ true → Put most before at text before at
     unfolding fitting
-    put-none h = simp (sym tells ∙ h) (omega arith, sym (keeping.written-none before at))
+    put-none h = simp (sym tells ∙ h) (omega arith, sym (writes.written-none before at))
 
     pub put-all : short ≡ false → {after : List ℕ} {next : ℕ} → Appended before at text most after next → Put most before at text after next
     put-all h p =

@@ -9,7 +9,8 @@ use lib.Dec.{eqb}
 use lib.ListN.{length, getD, take, drop, length-drop, drop-of-length-le}
 use lib.Seq.{drop-cons, take-all}
 use Rattle.octets.specs.Text.{starts}
-use Rattle.recording.specs.Pieces.{frameKey, textFrom, lineSize}
+use Rattle.hexline.specs.Line.{frameKey}
+use Rattle.recording.specs.Pieces.{textFrom, lineSize}
 
 pub size-within : (s : List ℕ) → lineSize s ≤ length s
 unfolding lineSize

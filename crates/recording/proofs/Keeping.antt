@@ -32,12 +32,6 @@ least-of-two m n l =
 pub take-least : (n : ℕ) (l : List ℕ) → take (min n (length l)) l ≡ take n l
 take-least n l = sym (least-of-two n (length l) l) ∙ ap (take n) (take-all (length l) l (omega arith))
 
--- nothing is written
-pub written-none : (room : List ℕ) (at : ℕ) → written room at [] ≡ room
-written-none room at =
-    let zero : at + 0 ≡ at = omega arith in
-    rw (append-nil, zero) (take-append-drop at room)
-
 pub kept-within : (room have : ℕ) (piece : List ℕ) → have ≤ room → have + length (toKeep room have piece) ≤ room
 kept-within room have piece h = omega (arith, length-take (room - have) (take (lineSize piece) piece))
 
@@ -62,7 +56,7 @@ module _ (kept piece : List ℕ) (have : ℕ) where
     none-size = rw none (omega arith)
 
     pub none-holds : kept ≡ written kept have (toKeep (length kept) have piece)
-    none-holds = rw none (sym (written-none kept have))
+    none-holds = rw none (sym (writes.written-none kept have))
 
   -- as many octets are written as there are and as there is room for
   module _ (some : have ≤ length kept) {size n : ℕ} (line : size ≡ lineSize piece) (least : n ≡ min (length kept - have) size) where

@@ -1,9 +1,6 @@
-pub mod Characters
-pub mod Decoding
 pub mod Blocks
 pub mod Ends
 pub mod Keeping
-pub mod LineCases
 pub mod Taking
 pub mod Walks
 pub mod Joins

@@ -12,10 +12,10 @@ use lib.Seq.{take-all, getD-take, length-take-le}
 use Rattle.octets.proofs.Order.{lt-or-le, eq-or-ne, either}
 use Rattle.refusal.specs.Numbers.{fieldTooLong}
 use Rattle.octets.specs.Text.{starts}
-use Rattle.recording.specs.Line.{refused, lineRead}
-use Rattle.recording.specs.Pieces.{frameKey, lineSize}
+use Rattle.hexline.specs.Line.{frameKey, refused, lineRead}
+use Rattle.recording.specs.Pieces.{lineSize}
 use Rattle.recording.specs.Claims.{StartTells}
-use Rattle.recording.proofs.LineCases as cases
+use Rattle.hexline.proofs.LineCases as cases
 
 -- a text starts with a word where its first octets do
 pub starts-take : (k : ℕ) (s w : List ℕ) → length w ≤ k → starts (take k s) w ≡ starts s w

@@ -8,15 +8,16 @@ use lib.ListN.{length, take}
 use Rattle.octets.specs.Room.{written}
 use Rattle.octets.specs.Text.{hasLf}
 use Rattle.octets.proofs.Order.{clash}
-use Rattle.recording.specs.declared.line.Read.{Read}
+use Rattle.hexline.specs.declared.Read.{Read}
 use Rattle.recording.specs.declared.pieces.Line.{Line}
 use Rattle.recording.specs.declared.pieces.Kept.{Kept}
 use Rattle.recording.specs.declared.stream.Begun.{Begun}
 use Rattle.recording.specs.declared.stream.Taken.{Taken}
 use Rattle.recording.specs.Pieces.{lineSize, lineEnd}
 use Rattle.recording.specs.Pieces.{keeping as keepAnswer}
-use Rattle.recording.specs.Line.{lineRead, inRoom, readOf, octetsOf}
+use Rattle.hexline.specs.Line.{lineRead, inRoom, readOf, octetsOf}
 use Rattle.recording.specs.Stream.{nextNumber, haveOf, keptOf, lineOf, heldBy, keptBehind, taken}
+use Rattle.octets.proofs.Writes as writes
 use Rattle.recording.proofs.Keeping as keeping
 
 module _ (frame : List ℕ) (begun : Begun) (kept piece : List ℕ) where
@@ -92,4 +93,4 @@ module _ (frame : List ℕ) (begun : Begun) (kept piece : List ℕ) where
         frame
     goes-on w =
         let lf : hasLf piece ≡ false = sym whole-is ∙ w in
-        (rw (lf) (cc), (holds ∙ simp lf, rw lf (sym (keeping.written-none frame 0))))
+        (rw (lf) (cc), (holds ∙ simp lf, rw lf (sym (writes.written-none frame 0))))

@@ -10,7 +10,8 @@ use lib.ListN.{take}
 use lib.Seq.{take-nil}
 use Rattle.octets.proofs.Order.{lt-or-le}
 use Rattle.octets.specs.Text.{starts}
-use Rattle.recording.specs.Pieces.{frameKey, textFrom}
+use Rattle.hexline.specs.Line.{frameKey}
+use Rattle.recording.specs.Pieces.{textFrom}
 use Rattle.recording.proofs.LineStart as line
 
 -- one octet, of which the test says whether a frame line starts there

@@ -14,13 +14,12 @@ use Rattle.octets.proofs.Writes as writes
 use Rattle.recording.specs.declared.stream.Begun.{Begun}
 use Rattle.recording.specs.declared.stream.Taken.{Taken}
 use Rattle.recording.specs.Pieces.{lineSize}
-use Rattle.recording.specs.Line.{Held, octets, lineRead, inRoom, readOf}
+use Rattle.hexline.specs.Line.{Held, octets, lineRead, inRoom, readOf}
 use Rattle.recording.specs.Stream.{lineOf, nextOf, keptBehind}
 use Rattle.recording.specs.Stream.{taken as lineTaken}
 use Rattle.recording.specs.Walk.{Tell, Told, Walk, stopped, before, nothing, nextTold, walk, pieceTold, lastTold}
 use Rattle.recording.proofs.Ends as ends
-use Rattle.recording.proofs.Keeping as keeping
-use Rattle.recording.proofs.LineCases as cases
+use Rattle.hexline.proofs.LineCases as cases
 
 module _ {S : Type 0} where
   before-none : (w : Walk S) → before [] 0 w ≡ w
@@ -72,7 +71,7 @@ module _ {S : Type 0} (tell : Tell S) (most : ℕ) where
         text = [];
         walks = sym (before-none _);
         ends = refl;
-        holds = sym (keeping.written-none out 0);
+        holds = sym (writes.written-none out 0);
         room = omega arith;
       }
 

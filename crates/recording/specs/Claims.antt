@@ -7,7 +7,7 @@ use mathlib.Core.Logic.{_⊎_}
 use lib.ListN.{length, take, drop}
 use Rattle.provisioning.specs.Text.{taken, Entry}
 use Rattle.recording.specs.declared.stream.Begun.{Begun}
-use Rattle.recording.specs.Line.{lineRead}
+use Rattle.hexline.specs.Line.{lineRead}
 use Rattle.recording.specs.Pieces.{textEnd, lineSize, lineEnds}
 use Rattle.recording.specs.Walk.{Tell, pieceTold, allTold, inputTold, whole}
 use Rattle.recording.specs.Input.{Program, textRead, inputPrinted, piecesPrinted}

@@ -1,6 +1,4 @@
-pub mod Hex
 pub mod Pieces
-pub mod Line
 pub mod Stream
 pub mod Walk
 pub mod Input

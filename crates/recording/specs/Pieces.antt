@@ -5,12 +5,10 @@ use mathlib.Core.List.{List, [], _∷_}
 use mathlib.Core.Bool.{Bool, true, cond, _&&_}
 use lib.Dec.{eqb}
 use lib.ListN.{length, take}
-use Rattle.octets.specs.Text.{ascii, lf, starts, hasLf}
+use Rattle.octets.specs.Text.{lf, starts, hasLf}
+use Rattle.hexline.specs.Line.{frameKey}
 use Rattle.recording.specs.declared.pieces.Line.{Line}
 use Rattle.recording.specs.declared.pieces.Kept.{Kept}
-
-abbrev pub frameKey : List ℕ
-frameKey = ascii "frame="
 
 -- the octets before the first line that starts with `frame=`; `begins` says whether a line begins here
 unfoldable pub textFrom : Bool → List ℕ → ℕ

@@ -10,7 +10,7 @@ use Rattle.octets.specs.Text.{hasLf}
 use Rattle.recording.specs.declared.stream.Begun.{Begun}
 use Rattle.recording.specs.declared.stream.Taken.{Taken}
 use Rattle.recording.specs.Pieces.{lineSize, toKeep}
-use Rattle.recording.specs.Line.{Held, octets, lineRead, inRoom, readOf}
+use Rattle.hexline.specs.Line.{Held, octets, lineRead, inRoom, readOf}
 
 -- the number after this one, up to the last of 64 bits
 unfoldable pub nextNumber : ℕ → ℕ

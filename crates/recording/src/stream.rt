@@ -1,9 +1,9 @@
 // A recording line by line, from pieces of any size, in fixed memory (document 01, "Listing program").
-use crate::line::Read;
+use hexline::Read;
 ghost use mathlib.Core.Path.{_≡_};
 ghost use lib.ListN.{length};
 ghost use Rattle.octets.specs.Room.{written};
-ghost use Rattle.recording.specs.Line.{octetsOf};
+ghost use Rattle.hexline.specs.Line.{octetsOf};
 ghost use Rattle.recording.specs.Stream.{nextNumber, heldBy, keptBehind, taken};
 
 // The room for the present line: the octets that decide what it holds (`StartTells`), that is `frame=`, 3,200 characters, and one
@@ -47,7 +47,7 @@ pub fn take_line(piece: &[u8], begun: Begun, kept: &mut [u8; MOST_KEPT], frame: 
         let own = crate::pieces::line_end(piece);
         if own.whole {
             let size = own.size;
-            let read = crate::line::read_line(&piece[..size], frame);
+            let read = hexline::read_line(&piece[..size], frame);
             let next = Begun {
                 have: 0,
                 number: after(begun.number),
@@ -64,7 +64,7 @@ pub fn take_line(piece: &[u8], begun: Begun, kept: &mut [u8; MOST_KEPT], frame: 
     if line.whole {
         let room: &[u8] = kept;
         let end = octets::least(line.have, room.len());
-        let read = crate::line::read_line(&room[..end], frame);
+        let read = hexline::read_line(&room[..end], frame);
         let next = Begun {
             have: 0,
             number: after(begun.number),

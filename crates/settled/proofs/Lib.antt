@@ -7,6 +7,7 @@ pub mod Levels
 pub mod Record
 pub mod Value
 pub mod Provisioning
+pub mod Hexline
 pub mod Recording
 pub mod Digits
 pub mod Signalling

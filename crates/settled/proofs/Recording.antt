@@ -4,15 +4,10 @@ use Prim.Native.Nat.{ℕ}
 use mathlib.Core.List.{List}
 use denote.Ref.{now}
 use Rattle.settled.specs.Settled.{OneAnswer, nothing}
-use Rattle.recording.proofs.line.read_line.Kinds as line-read-line-kinds
-use Rattle.recording.proofs.line.read_line.Reads as line-read-line-reads
 use Rattle.recording.proofs.pieces.text_end.Kinds as pieces-text-end-kinds
 use Rattle.recording.proofs.pieces.text_end.Reads as pieces-text-end-reads
 use Rattle.recording.proofs.stream.take_line.Kinds as stream-take-line-kinds
 use Rattle.recording.proofs.stream.take_line.Reads as stream-take-line-reads
-
-pub line-read-line : OneAnswer 2 line-read-line-kinds.ps line-read-line-kinds.r (λ κs s. now (s .1 .0)) line-read-line-reads.Post
-line-read-line κs a x y s t p q = (p .0 ∙ sym (q .0), cc)
 
 pub pieces-text-end : OneAnswer 1 pieces-text-end-kinds.ps pieces-text-end-kinds.r nothing pieces-text-end-reads.Post
 pieces-text-end κs a x y s t p q = (p ∙ sym q, refl)

@@ -3,7 +3,7 @@ use Prim.Native.Nat.{_-_}
 use mathlib.Core.Path.{ap, _∙_}
 use lib.ListN.{length}
 use borrow.Author.Needs.{needs}
-use Rattle.recording.specs.Hex.{hexValue}
+use Rattle.hexline.specs.Hex.{hexValue}
 use Rattle.console.proofs.Decoding as decoding
 use Rattle.console.proofs.hex.decode.Statement.{statement}
 use Rattle.console.proofs.hex.decode.Tie as tie

@@ -1,7 +1,7 @@
 -- `console::hex::value` meets its contract.
 use borrow.Author.Tests.{lt-ltb, le-ltb}
 use borrow.Author.Needs.{needs}
-use Rattle.recording.specs.Hex.{hexValue}
+use Rattle.hexline.specs.Hex.{hexValue}
 use Rattle.console.proofs.hex.value.Statement.{statement}
 use Rattle.console.proofs.hex.value.Tie as tie
 

@@ -4,9 +4,9 @@ use mathlib.Core.Path.{sym, ap}
 use native.Mathlib.Omega.{arith}
 use lib.ListN.{replicate, take}
 use lib.Seq.{length-take-le}
-use Rattle.recording.specs.declared.line.Read.{Read}
-use Rattle.recording.specs.Line.{lineRead}
-use Rattle.recording.proofs.LineCases as cases
+use Rattle.hexline.specs.declared.Read.{Read}
+use Rattle.hexline.specs.Line.{lineRead}
+use Rattle.hexline.proofs.LineCases as cases
 use Rattle.following.proofs.StreamTurns as turns
 use borrow.Author.Needs.{needs}
 use Rattle.following.proofs.stream.follow_last.Statement.{statement}

@@ -4,11 +4,11 @@ use mathlib.Core.Path.{ap}
 use native.Mathlib.Omega.{arith}
 use lib.ListN.{replicate}
 use borrow.Author.Needs.{needs}
-use Rattle.recording.specs.declared.line.Read.{Read}
-use Rattle.recording.specs.Line.{lineRead}
+use Rattle.hexline.specs.declared.Read.{Read}
+use Rattle.hexline.specs.Line.{lineRead}
 use Rattle.printing.proofs.Appending as appending
 use Rattle.listing.proofs.Listings as listings
-use Rattle.recording.proofs.LineCases as cases
+use Rattle.hexline.proofs.LineCases as cases
 use Rattle.listing.proofs.listing.list_line.Statement.{statement}
 use Rattle.listing.proofs.listing.list_line.Tie as tie
 

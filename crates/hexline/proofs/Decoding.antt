@@ -8,8 +8,8 @@ use lib.ListN.{length, getD, set}
 use lib.Seq.{paste, paste-zero}
 use Rattle.octets.specs.Room.{written}
 use Rattle.octets.proofs.Writes as writes
-use Rattle.recording.specs.Hex.{hexValue, anyOther, paired}
-use Rattle.recording.proofs.Characters as characters
+use Rattle.hexline.specs.Hex.{hexValue, anyOther, paired}
+use Rattle.hexline.proofs.Characters as characters
 
 -- after i octets
 pub record Going (chars table frame₀ frame : List ℕ) (n i : ℕ) : Type 0 where

@@ -15,12 +15,11 @@ use Rattle.octets.specs.Room.{written}
 use Rattle.octets.specs.Text.{starts}
 use Rattle.octets.proofs.Order.{lt-or-le, eq-or-ne, either}
 use Rattle.octets.proofs.Texts as texts
-use Rattle.recording.specs.declared.line.Read.{Read}
-use Rattle.recording.specs.Hex.{anyOther, paired}
-use Rattle.recording.specs.Pieces.{frameKey}
-use Rattle.recording.specs.Line.{Held, octets, refused, lineRead, inRoom, readOf, octetsOf}
-use Rattle.recording.proofs.Characters as characters
-use Rattle.recording.proofs.Keeping as keeping
+use Rattle.hexline.specs.declared.Read.{Read}
+use Rattle.hexline.specs.Hex.{anyOther, paired}
+use Rattle.hexline.specs.Line.{frameKey, Held, octets, refused, lineRead, inRoom, readOf, octetsOf}
+use Rattle.hexline.proofs.Characters as characters
+use Rattle.octets.proofs.Writes as writes
 
 -- a test that holds, behind others
 second : (a d : Bool) → (a or true or d) ≡ true
@@ -124,13 +123,13 @@ Promised line frame r after =
 
 module _ (line frame : List ℕ) where
   pub refuses : {r : Read} {number : ℕ} → r ≡ readOf (refused number) → lineRead line ≡ refused number → Promised line frame r frame
-  refuses says e = rw e (says, sym (keeping.written-none frame 0))
+  refuses says e = rw e (says, sym (writes.written-none frame 0))
 
   module _ {s : List ℕ} {n : ℕ} (size : length s ≡ n) (e : lineRead line ≡ octets s) where
     pub no-room : {r : Read} → length frame < n → r ≡ readOf (refused roomTooSmall) → Promised line frame r frame
     no-room h says =
         let short : length frame < length s = omega arith in
-        rw e (simp (lt-ltb (length frame) (length s) short) (says, sym (keeping.written-none frame 0)))
+        rw e (simp (lt-ltb (length frame) (length s) short) (says, sym (writes.written-none frame 0)))
 
     pub decodes :
         {after : List ℕ}

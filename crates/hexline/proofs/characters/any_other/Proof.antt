@@ -1,4 +1,4 @@
--- `recording::hex::any_other` meets its contract: the flaws of the characters passed are 1 where one of them is another.
+-- `crate::characters::any_other` meets its contract: the flaws of the characters passed are 1 where one of them is another.
 use Prim.Native.Nat.{_-_, _≤_}
 use mathlib.Core.Path.{_≡_, refl, ap, _∙_}
 use mathlib.Core.Bool.{cond}
@@ -7,10 +7,10 @@ use lib.Dec.{eqb}
 use lib.ListN.{length, take}
 use lib.Seq.{take-all}
 use borrow.Author.Needs.{needs}
-use Rattle.recording.specs.Hex.{anyOther}
-use Rattle.recording.proofs.Characters as characters
-use Rattle.recording.proofs.hex.any_other.Statement.{statement}
-use Rattle.recording.proofs.hex.any_other.Tie as tie
+use Rattle.hexline.specs.Hex.{anyOther}
+use Rattle.hexline.proofs.Characters as characters
+use Rattle.hexline.proofs.characters.any_other.Statement.{statement}
+use Rattle.hexline.proofs.characters.any_other.Tie as tie
 
 abbrev Inv-loop : tie.InvT-loop
 Inv-loop chars flaws₀ i₀ flaws i = (i ≤ length chars) × (flaws ≡ cond (anyOther (take i chars)) 1 0)

@@ -1,12 +1,12 @@
--- `recording::hex::decode` meets its contract: each turn makes one octet of two characters.
+-- `crate::characters::decode` meets its contract: each turn makes one octet of two characters.
 use Prim.Native.Nat.{_+_, _*_, _-_}
 use mathlib.Core.Path.{ap}
 use native.Mathlib.Omega.{arith}
 use lib.ListN.{getD}
 use borrow.Author.Needs.{needs}
-use Rattle.recording.proofs.Decoding as decoding
-use Rattle.recording.proofs.hex.decode.Statement.{statement}
-use Rattle.recording.proofs.hex.decode.Tie as tie
+use Rattle.hexline.proofs.Decoding as decoding
+use Rattle.hexline.proofs.characters.decode.Statement.{statement}
+use Rattle.hexline.proofs.characters.decode.Tie as tie
 
 abbrev Inv-loop : tie.InvT-loop
 Inv-loop chars frame₀ table n i₀ frame i = decoding.Going chars table frame₀ frame n i

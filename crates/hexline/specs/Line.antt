@@ -7,15 +7,17 @@ use lib.Dec.{ltb, eqb}
 use lib.ListN.{length, getD, take, drop}
 use Rattle.refusal.specs.Numbers.{sound, fieldTooLong, hexMalformed, roomTooSmall}
 use Rattle.refusal.specs.Order.{_gives_, inOrder, _or_}
-use Rattle.octets.specs.Text.{lf, starts}
-use Rattle.recording.specs.declared.line.Read.{Read}
-use Rattle.recording.specs.Hex.{anyOther, paired}
-use Rattle.recording.specs.Pieces.{frameKey}
+use Rattle.octets.specs.Text.{ascii, lf, starts}
+use Rattle.hexline.specs.declared.Read.{Read}
+use Rattle.hexline.specs.Hex.{anyOther, paired}
 
 -- What a line holds: the octets of a frame, or a refusal number.
 pub data Held : Type 0 where
   octets : List ℕ → Held
   refused : ℕ → Held
+
+abbrev pub frameKey : List ℕ
+frameKey = ascii "frame="
 
 abbrev pub mostCharacters : ℕ
 mostCharacters = 3200

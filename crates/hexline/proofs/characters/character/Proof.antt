@@ -1,10 +1,10 @@
--- `recording::hex::character` meets its contract.
+-- `crate::characters::character` meets its contract.
 use Prim.Native.Nat.{_+_}
 use native.Mathlib.Omega.{arith}
 use borrow.Author.Needs.{needs}
-use Rattle.recording.proofs.Characters as characters
-use Rattle.recording.proofs.hex.character.Statement.{statement}
-use Rattle.recording.proofs.hex.character.Tie as tie
+use Rattle.hexline.proofs.Characters as characters
+use Rattle.hexline.proofs.characters.character.Statement.{statement}
+use Rattle.hexline.proofs.characters.character.Tie as tie
 
 add-result : tie.Need-add-result
 add-result c = search needs

@@ -1,9 +1,11 @@
-// A line after the provisioning text (document 01, "Listing program").
+// A line after the provisioning text: a frame in hex (document 01, "Listing program").
+mod characters;
+
 use octets::text::LF;
 ghost use mathlib.Core.Path.{_≡_};
 ghost use lib.ListN.{length};
 ghost use Rattle.octets.specs.Room.{written};
-ghost use Rattle.recording.specs.Line.{refused, lineRead, inRoom, readOf, octetsOf};
+ghost use Rattle.hexline.specs.Line.{refused, lineRead, inRoom, readOf, octetsOf};
 
 const MOST_CHARACTERS: usize = 3200;
 
@@ -42,13 +44,13 @@ pub fn read_line(line: &[u8], frame: &mut [u8]) -> Read
     if count % 2 == 1 {
         return bad(refusal::HEX_MALFORMED);
     }
-    if crate::hex::any_other(&line[6..last]) {
+    if crate::characters::any_other(&line[6..last]) {
         return bad(refusal::HEX_MALFORMED);
     }
     if frame.len() < count / 2 {
         return bad(refusal::ROOM_TOO_SMALL);
     }
-    crate::hex::decode(&line[6..last], frame);
+    crate::characters::decode(&line[6..last], frame);
     Read {
         number: refusal::SOUND,
         octets: count / 2,

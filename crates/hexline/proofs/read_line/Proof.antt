@@ -1,11 +1,11 @@
--- `recording::line::read_line` meets its contract: the tests say which refusal is due, or which characters are decoded.
+-- `crate::read_line` meets its contract: the tests say which refusal is due, or which characters are decoded.
 use mathlib.Core.Path.{sym, _∙_}
 use native.Mathlib.Omega.{arith}
 use borrow.Author.Tests.{not-true, not-false}
 use borrow.Author.Needs.{needs}
-use Rattle.recording.proofs.LineCases as cases
-use Rattle.recording.proofs.line.read_line.Statement.{statement}
-use Rattle.recording.proofs.line.read_line.Tie as tie
+use Rattle.hexline.proofs.LineCases as cases
+use Rattle.hexline.proofs.read_line.Statement.{statement}
+use Rattle.hexline.proofs.read_line.Tie as tie
 
 slice-aggregate-starts : tie.Need-slice-aggregate-starts
 slice-aggregate-starts c = search needs

@@ -14,7 +14,7 @@ use lib.Seq.{take-suc, getD-set-same, getD-set-other}
 use Rattle.refusal.specs.Order.{_or_}
 use Rattle.octets.proofs.Order.{lt-or-le, eq-or-ne}
 use Rattle.octets.proofs.Texts as texts
-use Rattle.recording.specs.Hex.{hexValue, isOther, anyOther, paired}
+use Rattle.hexline.specs.Hex.{hexValue, isOther, anyOther, paired}
 
 -- a character, by the range in which it stands
 module _ (c : ℕ) where

@@ -1,9 +1,9 @@
--- `recording::hex::flaw` meets its contract: a difference from `0` or from `a` that wraps tells the range.
+-- `crate::characters::flaw` meets its contract: a difference from `0` or from `a` that wraps tells the range.
 use native.Mathlib.Omega.{arith}
 use borrow.Author.Needs.{needs}
-use Rattle.recording.proofs.Characters as characters
-use Rattle.recording.proofs.hex.flaw.Statement.{statement}
-use Rattle.recording.proofs.hex.flaw.Tie as tie
+use Rattle.hexline.proofs.Characters as characters
+use Rattle.hexline.proofs.characters.flaw.Statement.{statement}
+use Rattle.hexline.proofs.characters.flaw.Tie as tie
 
 wrapping-sub-u8-requires : tie.Need-wrapping-sub-u8-requires
 wrapping-sub-u8-requires c κs = search needs

@@ -4,7 +4,7 @@ ghost use mathlib.Core.Bool.{false, cond};
 ghost use Prim.Native.Nat.{ℕ, _+_, _/_, _<_, _≤_};
 ghost use lib.ListN.{length, getD};
 ghost use Rattle.octets.specs.Room.{written};
-ghost use Rattle.recording.specs.Hex.{hexValue, isOther, anyOther, paired};
+ghost use Rattle.hexline.specs.Hex.{hexValue, isOther, anyOther, paired};
 
 // 0 of a hex character, 1 of any other.
 fn flaw(c: u8) -> u8
