@@ -1,7 +1,7 @@
 -- Worked runs of a digit sender (document 01, "Senders, per 20 ms"), on the definitions. Proved in proofs/Examples.antt.
 use Prim.Native.Nat.{ℕ}
 use mathlib.Core.Path.{_≡_}
-use mathlib.Core.List.{List, [], _∷_, map}
+use mathlib.Core.List.{[], _∷_, map}
 use mathlib.Core.Bool.{true, false}
 use lib.IntN.{ℤ, pos, negsuc}
 use Rattle.digits.specs.declared.layout.Window.{Window}

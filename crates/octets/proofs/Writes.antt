@@ -6,7 +6,7 @@ use native.Mathlib.Nat.{add-assoc, zero-add}
 use native.Mathlib.Numerals.{add-one, add-two}
 use native.Mathlib.Omega.{arith}
 use borrow.Author.Tests.{lt-ltb, le-ltb}
-use lib.ListN.{length, getD, set, take, drop, length-append, length-drop, drop-of-length-le}
+use lib.ListN.{length, getD, set, take, drop, length-append, length-drop, drop-of-length-le, take-append-drop}
 use lib.Seq.{sets-eq, paste, paste-suc, length-paste, take-all, take-at, drop-at, drop-drop, length-take-le}
 use Rattle.refusal.specs.Numbers.{roomTooSmall}
 use Rattle.octets.specs.declared.Put.{Put}

@@ -1,10 +1,10 @@
 -- What is kept of a piece.
 use Prim.Native.Nat.{ℕ, _+_, _-_, _<_, _≤_, min}
 use mathlib.Core.Path.{_≡_, sym, ap, _∙_}
-use mathlib.Core.List.{List, [], append-nil}
+use mathlib.Core.List.{List, []}
 use mathlib.Core.Logic.{⊎-elim}
 use native.Mathlib.Omega.{arith}
-use lib.ListN.{length, take, length-take, take-append-drop}
+use lib.ListN.{length, take, length-take}
 use lib.Seq.{take-take, take-all}
 use Rattle.octets.specs.declared.Put.{Put}
 use Rattle.octets.specs.declared.Put.the-variants.{Written, NotWritten}
