@@ -1,5 +1,5 @@
 // A line after the provisioning text: a frame in hex (document 01, "Listing program").
-mod characters;
+mod hex;
 
 use octets::text::LF;
 ghost use mathlib.Core.Path.{_≡_};
@@ -44,13 +44,13 @@ pub fn read_line(line: &[u8], frame: &mut [u8]) -> Read
     if count % 2 == 1 {
         return bad(refusal::HEX_MALFORMED);
     }
-    if crate::characters::any_other(&line[6..last]) {
+    if crate::hex::any_other(&line[6..last]) {
         return bad(refusal::HEX_MALFORMED);
     }
     if frame.len() < count / 2 {
         return bad(refusal::ROOM_TOO_SMALL);
     }
-    crate::characters::decode(&line[6..last], frame);
+    crate::hex::decode(&line[6..last], frame);
     Read {
         number: refusal::SOUND,
         octets: count / 2,

@@ -2,8 +2,8 @@
 use native.Mathlib.Omega.{arith}
 use borrow.Author.Needs.{needs}
 use Rattle.hexline.proofs.Characters as characters
-use Rattle.hexline.proofs.characters.flaw.Statement.{statement}
-use Rattle.hexline.proofs.characters.flaw.Tie as tie
+use Rattle.hexline.proofs.hex.flaw.Statement.{statement}
+use Rattle.hexline.proofs.hex.flaw.Tie as tie
 
 wrapping-sub-u8-requires : tie.Need-wrapping-sub-u8-requires
 wrapping-sub-u8-requires c κs = search needs

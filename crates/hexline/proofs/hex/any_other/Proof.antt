@@ -9,8 +9,8 @@ use lib.Seq.{take-all}
 use borrow.Author.Needs.{needs}
 use Rattle.hexline.specs.Hex.{anyOther}
 use Rattle.hexline.proofs.Characters as characters
-use Rattle.hexline.proofs.characters.any_other.Statement.{statement}
-use Rattle.hexline.proofs.characters.any_other.Tie as tie
+use Rattle.hexline.proofs.hex.any_other.Statement.{statement}
+use Rattle.hexline.proofs.hex.any_other.Tie as tie
 
 abbrev Inv-loop : tie.InvT-loop
 Inv-loop chars flaws₀ i₀ flaws i = (i ≤ length chars) × (flaws ≡ cond (anyOther (take i chars)) 1 0)

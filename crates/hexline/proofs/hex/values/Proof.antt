@@ -5,8 +5,8 @@ use native.Mathlib.Omega.{arith}
 use lib.ListN.{length, length-set}
 use borrow.Author.Needs.{needs}
 use Rattle.hexline.proofs.Characters as characters
-use Rattle.hexline.proofs.characters.values.Statement.{statement}
-use Rattle.hexline.proofs.characters.values.Tie as tie
+use Rattle.hexline.proofs.hex.values.Statement.{statement}
+use Rattle.hexline.proofs.hex.values.Tie as tie
 
 abbrev Inv-loop : tie.InvT-loop
 Inv-loop table₀ value₀ table value = (value ≤ 16) × ((length table ≡ 256) × characters.Filled table value)

@@ -5,8 +5,8 @@ use native.Mathlib.Omega.{arith}
 use lib.ListN.{getD}
 use borrow.Author.Needs.{needs}
 use Rattle.hexline.proofs.Decoding as decoding
-use Rattle.hexline.proofs.characters.decode.Statement.{statement}
-use Rattle.hexline.proofs.characters.decode.Tie as tie
+use Rattle.hexline.proofs.hex.decode.Statement.{statement}
+use Rattle.hexline.proofs.hex.decode.Tie as tie
 
 abbrev Inv-loop : tie.InvT-loop
 Inv-loop chars frame₀ table n i₀ frame i = decoding.Going chars table frame₀ frame n i
