@@ -1,4 +1,4 @@
--- `crate::appended` meets its contract.
+-- `dialled::appended` meets its contract.
 use borrow.Author.Needs.{needs}
 use Rattle.dialled.proofs.appended.Statement.{statement}
 use Rattle.dialled.proofs.appended.Tie as tie

@@ -1,4 +1,4 @@
--- `crate::passed_over` meets its contract.
+-- `dialled::passed_over` meets its contract.
 use borrow.Author.Needs.{needs}
 use Rattle.dialled.proofs.passed_over.Statement.{statement}
 use Rattle.dialled.proofs.passed_over.Tie as tie

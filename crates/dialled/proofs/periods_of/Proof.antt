@@ -1,4 +1,4 @@
--- `crate::periods_of` meets its contract.
+-- `dialled::periods_of` meets its contract.
 use mathlib.Core.Path.{sym}
 use Rattle.dialled.proofs.ReceiverCases as cases
 use borrow.Author.Needs.{needs}

@@ -1,4 +1,4 @@
--- `crate::receive` meets its contract.
+-- `dialled::receive` meets its contract.
 use mathlib.Core.Path.{sym, ap, _∙_}
 use Rattle.dialled.specs.Receiver.{appended}
 use Rattle.dialled.proofs.ReceiverCases as cases

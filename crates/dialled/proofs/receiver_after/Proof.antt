@@ -1,4 +1,4 @@
--- `crate::receiver_after` meets its contract.
+-- `dialled::receiver_after` meets its contract.
 use borrow.Author.Tests.{eq-eqb, ne-eqb}
 use Rattle.dialled.proofs.receiver_after.Statement.{statement}
 use Rattle.dialled.proofs.receiver_after.Tie as tie

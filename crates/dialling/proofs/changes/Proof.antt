@@ -1,4 +1,4 @@
--- `crate::changes` meets its contract.
+-- `dialling::changes` meets its contract.
 use borrow.Author.Needs.{needs}
 use Rattle.dialling.proofs.changes.Statement.{statement}
 use Rattle.dialling.proofs.changes.Tie as tie

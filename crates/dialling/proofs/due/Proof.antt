@@ -1,4 +1,4 @@
--- `crate::due` meets its contract.
+-- `dialling::due` meets its contract.
 use mathlib.Core.Path.{sym, _∙_}
 use borrow.Author.Needs.{needs}
 use Rattle.dialling.proofs.due.Statement.{statement}

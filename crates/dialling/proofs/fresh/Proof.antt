@@ -1,4 +1,4 @@
--- `crate::fresh` meets its contract.
+-- `dialling::fresh` meets its contract.
 use borrow.Author.Needs.{needs}
 use Rattle.dialling.proofs.fresh.Statement.{statement}
 use Rattle.dialling.proofs.fresh.Tie as tie

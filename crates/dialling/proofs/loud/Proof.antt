@@ -1,4 +1,4 @@
--- `crate::loud` meets its contract.
+-- `dialling::loud` meets its contract.
 use borrow.Author.Needs.{needs}
 use Rattle.dialling.proofs.loud.Statement.{statement}
 use Rattle.dialling.proofs.loud.Tie as tie

@@ -1,4 +1,4 @@
--- `crate::period` meets its contract.
+-- `dialling::period` meets its contract.
 use mathlib.Core.Path.{sym, _∙_}
 use mir.Syntax.{w8}
 use mir.ValLaws.{toZ-ofZ}

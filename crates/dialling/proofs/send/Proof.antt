@@ -1,4 +1,4 @@
--- `crate::send` meets its contract.
+-- `dialling::send` meets its contract.
 use mathlib.Core.Path.{_≡_, sym, ap, _∙_}
 use mathlib.Core.Bool.{false}
 use mir.Syntax.{w8}

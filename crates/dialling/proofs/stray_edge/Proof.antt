@@ -1,4 +1,4 @@
--- `crate::stray_edge` meets its contract.
+-- `dialling::stray_edge` meets its contract.
 use borrow.Author.Tests.{eq-eqb, ne-eqb}
 use borrow.Author.Needs.{needs}
 use Rattle.dialling.proofs.stray_edge.Statement.{statement}

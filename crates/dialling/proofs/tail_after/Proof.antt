@@ -1,4 +1,4 @@
--- `crate::tail_after` meets its contract.
+-- `dialling::tail_after` meets its contract.
 use mathlib.Core.Path.{sym, _∙_}
 use borrow.Author.Needs.{needs}
 use Rattle.dialling.proofs.tail_after.Statement.{statement}

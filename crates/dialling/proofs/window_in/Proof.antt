@@ -1,4 +1,4 @@
--- `crate::window_in` meets its contract.
+-- `dialling::window_in` meets its contract.
 use Rattle.dialling.proofs.window_in.Statement.{statement}
 use Rattle.dialling.proofs.window_in.Tie as tie
 

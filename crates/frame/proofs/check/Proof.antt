@@ -1,4 +1,4 @@
--- `crate::check` meets its contract: it hands on what the scan tells, and of a refused one its number and place.
+-- `frame::check` meets its contract: it hands on what the scan tells, and of a refused one its number and place.
 use Prim.Native.Nat.{ℕ}
 use mathlib.Core.Path.{_≡_, sym, ap, _∙_}
 use mathlib.Core.List.{List}

@@ -1,4 +1,4 @@
--- `crate::field_fits` meets its contract.
+-- `frame::field_fits` meets its contract.
 use Prim.Native.Nat.{_<_, _≤_}
 use mathlib.Core.Path.{sym}
 use lib.ListN.{length}

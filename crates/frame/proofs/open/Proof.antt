@@ -1,4 +1,4 @@
--- `crate::open` meets its contract: the headers that were checked tell the sub-frames, one a turn.
+-- `frame::open` meets its contract: the headers that were checked tell the sub-frames, one a turn.
 use Prim.Native.Nat.{_-_, _<_}
 use borrow.Author.Needs.{needs}
 use native.Mathlib.Omega.{arith}

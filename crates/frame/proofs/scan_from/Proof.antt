@@ -1,4 +1,4 @@
--- `crate::scan_from` meets its contract: each turn finds one sub-frame more, and what stops the loop stops the scan.
+-- `frame::scan_from` meets its contract: each turn finds one sub-frame more, and what stops the loop stops the scan.
 use Prim.Native.Nat.{_-_}
 use borrow.Author.Needs.{needs}
 use native.Mathlib.Omega.{arith}

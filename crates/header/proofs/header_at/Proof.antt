@@ -1,4 +1,4 @@
--- `crate::header_at` meets its contract: at each return the tests that led there say which case of `told` holds.
+-- `header::header_at` meets its contract: at each return the tests that led there say which case of `told` holds.
 use mathlib.Core.Path.{sym}
 use mathlib.Core.Logic.{⊎-elim}
 use Prim.Native.Nat.{_≤_}

@@ -1,4 +1,4 @@
--- `crate::reserved` meets its contract.
+-- `header::reserved` meets its contract.
 use mathlib.Core.Path.{sym}
 use Rattle.header.proofs.HeaderRead as header
 use Rattle.header.proofs.reserved.Statement.{statement}

@@ -1,4 +1,4 @@
--- `crate::sub_at` meets its contract.
+-- `header::sub_at` meets its contract.
 use mathlib.Core.Path.{refl, _∙_}
 use mathlib.Core.Logic.{⊎-elim}
 use borrow.Author.Needs.{needs}

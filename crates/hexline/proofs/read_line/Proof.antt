@@ -1,4 +1,4 @@
--- `crate::read_line` meets its contract: the tests say which refusal is due, or which characters are decoded.
+-- `hexline::read_line` meets its contract: the tests say which refusal is due, or which characters are decoded.
 use mathlib.Core.Path.{sym, _∙_}
 use native.Mathlib.Omega.{arith}
 use borrow.Author.Tests.{not-true, not-false}

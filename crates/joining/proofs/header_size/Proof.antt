@@ -1,4 +1,4 @@
--- `crate::header_size` meets its contract.
+-- `joining::header_size` meets its contract.
 use borrow.Author.Tests.{lt-ltb, le-ltb, eq-eqb, ne-eqb}
 use Rattle.joining.specs.Joining.{headerSize}
 use Rattle.joining.proofs.header_size.Statement.{statement}

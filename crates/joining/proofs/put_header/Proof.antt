@@ -1,4 +1,4 @@
--- `crate::put_header` meets its contract: the tests say which refusal or which of the header's four shapes is due, and each
+-- `joining::put_header` meets its contract: the tests say which refusal or which of the header's four shapes is due, and each
 -- shape's octets fit the room.
 use mathlib.Core.Path.{_≡_, refl}
 use mathlib.Core.List.{List, [], _∷_}

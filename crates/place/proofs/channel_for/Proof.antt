@@ -1,4 +1,4 @@
--- `crate::channel_for` meets its contract: 24, 4, then what the record says.
+-- `place::channel_for` meets its contract: 24, 4, then what the record says.
 use borrow.Author.Needs.{needs}
 use Rattle.place.proofs.ChannelCases as cases
 use Rattle.place.proofs.channel_for.Statement.{statement}

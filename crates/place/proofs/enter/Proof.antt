@@ -1,4 +1,4 @@
--- `crate::enter` meets its contract: by how the content fits, then by its place.
+-- `place::enter` meets its contract: by how the content fits, then by its place.
 use borrow.Author.Needs.{needs}
 use Rattle.place.proofs.enter.Statement.{statement}
 use Rattle.place.proofs.enter.Tie as tie

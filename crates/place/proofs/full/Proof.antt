@@ -1,4 +1,4 @@
--- `crate::full` meets its contract: no sum is made that could pass the largest number.
+-- `place::full` meets its contract: no sum is made that could pass the largest number.
 use Prim.Native.Nat.{_+_}
 use mathlib.Core.Path.{sym, _∙_}
 use native.Mathlib.Omega.{arith}

@@ -1,4 +1,4 @@
--- `crate::place` meets its contract: 22, 23, 21, and no sum is made that could pass the largest number.
+-- `place::place` meets its contract: 22, 23, 21, and no sum is made that could pass the largest number.
 use Prim.Native.Nat.{_+_, _≤_}
 use mathlib.Core.Path.{sym, _∙_}
 use native.Mathlib.Omega.{arith}

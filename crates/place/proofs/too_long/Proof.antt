@@ -1,4 +1,4 @@
--- `crate::too_long` meets its contract.
+-- `place::too_long` meets its contract.
 use borrow.Author.Needs.{needs}
 use Rattle.place.proofs.too_long.Statement.{statement}
 use Rattle.place.proofs.too_long.Tie as tie

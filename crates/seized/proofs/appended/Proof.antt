@@ -1,4 +1,4 @@
--- `crate::appended` meets its contract.
+-- `seized::appended` meets its contract.
 use borrow.Author.Needs.{needs}
 use Rattle.seized.proofs.appended.Statement.{statement}
 use Rattle.seized.proofs.appended.Tie as tie

@@ -1,4 +1,4 @@
--- `crate::periods_of` meets its contract.
+-- `seized::periods_of` meets its contract.
 use Prim.Native.Nat.{_*_}
 use mathlib.Core.Path.{_≡_}
 use native.Mathlib.Omega.{arith}

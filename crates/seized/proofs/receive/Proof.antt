@@ -1,4 +1,4 @@
--- `crate::receive` meets its contract.
+-- `seized::receive` meets its contract.
 use mathlib.Core.Path.{sym, ap, _∙_}
 use Rattle.seized.specs.Receiver.{appended}
 use Rattle.seized.proofs.ReceiverCases as cases

@@ -1,4 +1,4 @@
--- `crate::receiver_after` meets its contract.
+-- `seized::receiver_after` meets its contract.
 use borrow.Author.Needs.{needs}
 use borrow.Author.Tests.{eq-eqb, ne-eqb}
 use Rattle.seized.proofs.receiver_after.Statement.{statement}

@@ -1,4 +1,4 @@
--- `crate::all_equal` meets its contract: after i turns the samples from i on decide.
+-- `seizing::all_equal` meets its contract: after i turns the samples from i on decide.
 use Prim.Native.Nat.{ℕ, _-_, _≤_}
 use mathlib.Core.Path.{_≡_, refl}
 use mathlib.Core.List.{List}

@@ -1,4 +1,4 @@
--- `crate::decide` meets its contract.
+-- `seizing::decide` meets its contract.
 use borrow.Author.Needs.{needs}
 use borrow.Author.Tests.{lt-ltb, le-ltb}
 use Rattle.seizing.proofs.decide.Statement.{statement}

@@ -1,4 +1,4 @@
--- `crate::run_after` meets its contract.
+-- `seizing::run_after` meets its contract.
 use borrow.Author.Needs.{needs}
 use borrow.Author.Tests.{lt-ltb, le-ltb}
 use Rattle.seizing.proofs.run_after.Statement.{statement}

@@ -1,4 +1,4 @@
--- `crate::send` meets its contract.
+-- `seizing::send` meets its contract.
 use mathlib.Core.Path.{sym, _∙_}
 use Rattle.seizing.proofs.SenderCases as cases
 use borrow.Author.Needs.{needs}

@@ -1,4 +1,4 @@
--- `crate::start` meets its contract.
+-- `seizing::start` meets its contract.
 use mathlib.Core.Path.{sym, _∙_}
 use borrow.Author.Needs.{needs}
 use Rattle.seizing.proofs.start.Statement.{statement}

@@ -1,4 +1,4 @@
--- `crate::take_period` meets its contract.
+-- `seizing::take_period` meets its contract.
 use mathlib.Core.Path.{_∙_}
 use Rattle.seizing.proofs.SenderCases as cases
 use borrow.Author.Needs.{needs}

@@ -1,4 +1,4 @@
--- `crate::ten_allowed` meets its contract: after i turns the samples from i on decide.
+-- `seizing::ten_allowed` meets its contract: after i turns the samples from i on decide.
 use Prim.Native.Nat.{_-_, _≤_}
 use mathlib.Core.Path.{_≡_, refl, sym, _∙_}
 use native.Mathlib.Omega.{arith}

@@ -1,4 +1,4 @@
--- `crate::windows_after` meets its contract.
+-- `seizing::windows_after` meets its contract.
 use mathlib.Core.Path.{_≡_}
 use native.Mathlib.Omega.{arith}
 use lib.ListN.{length}

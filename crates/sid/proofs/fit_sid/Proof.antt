@@ -1,4 +1,4 @@
--- `crate::fit_sid` meets its contract.
+-- `sid::fit_sid` meets its contract.
 use mathlib.Core.Path.{_≡_, sym, ap, _∙_}
 use mathlib.Core.Bool.{true, false, not}
 use borrow.Author.Tests.{lt-ltb, le-ltb, eq-eqb, ne-eqb}

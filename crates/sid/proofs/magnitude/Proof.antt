@@ -1,4 +1,4 @@
--- `crate::magnitude` meets its contract.
+-- `sid::magnitude` meets its contract.
 use mathlib.Core.Path.{_≡_, sym, ap, _∙_}
 use mir.Syntax.{w8}
 use mir.ValLaws.{toZ-ofZ}

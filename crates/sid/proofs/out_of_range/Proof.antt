@@ -1,4 +1,4 @@
--- `crate::out_of_range` meets its contract.
+-- `sid::out_of_range` meets its contract.
 use mathlib.Core.Path.{_≡_, sym, ap, _∙_}
 use mir.Syntax.{w8}
 use mir.ValLaws.{toZ-ofZ}

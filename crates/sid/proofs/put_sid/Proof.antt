@@ -1,4 +1,4 @@
--- `crate::put_sid` meets its contract: what fits is two octets with noise, and none without.
+-- `sid::put_sid` meets its contract: what fits is two octets with noise, and none without.
 use Prim.Native.Nat.{_≤_}
 use mathlib.Core.Path.{_≡_, sym, ap, _∙_}
 use mathlib.Core.List.{[]}

@@ -1,4 +1,4 @@
--- `crate::read_sid` meets its contract.
+-- `sid::read_sid` meets its contract.
 use Prim.Native.Nat.{ℕ, _/_}
 use mathlib.Core.Path.{_≡_, sym, ap, ap₂, _∙_}
 use mathlib.Core.Bool.{true, false, not}

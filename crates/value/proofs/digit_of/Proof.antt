@@ -1,4 +1,4 @@
--- `crate::digit_of` meets its contract.
+-- `value::digit_of` meets its contract.
 use borrow.Author.Tests.{lt-ltb, le-ltb}
 use Rattle.value.specs.Value.{digitOf}
 use borrow.Author.Needs.{needs}

@@ -1,4 +1,4 @@
--- `crate::number_by` meets its contract: at each return the tests that led there say which case holds.
+-- `value::number_by` meets its contract: at each return the tests that led there say which case holds.
 use mathlib.Core.Path.{refl}
 use mathlib.Core.List.{[], _∷_}
 use Rattle.value.proofs.Values as values

@@ -1,4 +1,4 @@
--- `crate::number_of` meets its contract.
+-- `value::number_of` meets its contract.
 use mathlib.Core.Path.{_∙_}
 use Rattle.value.proofs.Values as values
 use borrow.Author.Needs.{needs}

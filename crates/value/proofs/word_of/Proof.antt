@@ -1,4 +1,4 @@
--- `crate::word_of` meets its contract: each word in turn, and then whether an LF comes.
+-- `value::word_of` meets its contract: each word in turn, and then whether an LF comes.
 use mathlib.Core.Path.{_≡_, sym, _∙_}
 use mathlib.Core.List.{[], _∷_}
 use Rattle.record.specs.declared.syntax.Syntax.the-variants.{Acelp, Pcm, G727, G728, G7231, Data, Fax}

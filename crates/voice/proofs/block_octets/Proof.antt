@@ -1,4 +1,4 @@
--- `crate::block_octets` meets its contract.
+-- `voice::block_octets` meets its contract.
 use Rattle.voice.specs.Voice.{blockOctets}
 use borrow.Author.Needs.{needs}
 use Rattle.voice.proofs.block_octets.Statement.{statement}

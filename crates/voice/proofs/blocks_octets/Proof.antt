@@ -1,4 +1,4 @@
--- `crate::blocks_octets` meets its contract: at most 255 blocks of at most 40 octets.
+-- `voice::blocks_octets` meets its contract: at most 255 blocks of at most 40 octets.
 use Prim.Native.Nat.{ℕ, _*_, _≤_}
 use mathlib.Core.Path.{ap₂}
 use native.Mathlib.Nat.{mul-le-mul}

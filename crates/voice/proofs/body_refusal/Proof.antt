@@ -1,4 +1,4 @@
--- `crate::body_refusal` meets its contract.
+-- `voice::body_refusal` meets its contract.
 use Prim.Native.Nat.{_<_}
 use mathlib.Core.Path.{_≡_, sym, _∙_}
 use mathlib.Core.Bool.{false}

@@ -1,4 +1,4 @@
--- `crate::fit_voice` meets its contract.
+-- `voice::fit_voice` meets its contract.
 use Prim.Native.Nat.{ℕ, _+_}
 use mathlib.Core.Path.{_≡_, sym, ap, _∙_}
 use native.Mathlib.Omega.{arith}

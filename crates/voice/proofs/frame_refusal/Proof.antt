@@ -1,4 +1,4 @@
--- `crate::frame_refusal` meets its contract.
+-- `voice::frame_refusal` meets its contract.
 use mathlib.Core.Path.{sym, _∙_}
 use Rattle.voice.proofs.VoiceCases as cases
 use borrow.Author.Needs.{needs}

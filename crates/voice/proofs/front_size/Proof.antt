@@ -1,4 +1,4 @@
--- `crate::front_size` meets its contract.
+-- `voice::front_size` meets its contract.
 use Rattle.voice.specs.Voice.{frontOf}
 use borrow.Author.Needs.{needs}
 use Rattle.voice.proofs.front_size.Statement.{statement}

@@ -1,4 +1,4 @@
--- `crate::g7231_octets` meets its contract.
+-- `voice::g7231_octets` meets its contract.
 use Rattle.voice.specs.Voice.{g7231Octets}
 use borrow.Author.Tests.{eq-eqb, ne-eqb}
 use Rattle.voice.proofs.g7231_octets.Statement.{statement}

@@ -1,4 +1,4 @@
--- `crate::most_sequence` meets its contract.
+-- `voice::most_sequence` meets its contract.
 use borrow.Author.Tests.{eq-eqb, ne-eqb}
 use Rattle.voice.proofs.most_sequence.Statement.{statement}
 use Rattle.voice.proofs.most_sequence.Tie as tie

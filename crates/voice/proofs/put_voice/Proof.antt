@@ -1,4 +1,4 @@
--- `crate::put_voice` meets its contract: what fits is the front octet, where there is one, and the body.
+-- `voice::put_voice` meets its contract: what fits is the front octet, where there is one, and the body.
 use Prim.Native.Nat.{_+_, _*_, _≤_}
 use mathlib.Core.Path.{sym, _∙_}
 use mathlib.Core.List.{_++_}

@@ -1,4 +1,4 @@
--- `crate::read_voice` meets its contract.
+-- `voice::read_voice` meets its contract.
 use Prim.Native.Nat.{_-_}
 use mathlib.Core.Path.{sym}
 use lib.Seq.{length-take-le}

@@ -1,4 +1,4 @@
--- `crate::characters::any_other` meets its contract: the flaws of the characters passed are 1 where one of them is another.
+-- `hexline::hex::any_other` meets its contract: the flaws of the characters passed are 1 where one of them is another.
 use Prim.Native.Nat.{_-_, _≤_}
 use mathlib.Core.Path.{_≡_, refl, ap, _∙_}
 use mathlib.Core.Bool.{cond}

@@ -1,4 +1,4 @@
--- `crate::characters::character` meets its contract.
+-- `hexline::hex::character` meets its contract.
 use Prim.Native.Nat.{_+_}
 use native.Mathlib.Omega.{arith}
 use borrow.Author.Needs.{needs}

@@ -1,4 +1,4 @@
--- `crate::characters::decode` meets its contract: each turn makes one octet of two characters.
+-- `hexline::hex::decode` meets its contract: each turn makes one octet of two characters.
 use Prim.Native.Nat.{_+_, _*_, _-_}
 use mathlib.Core.Path.{ap}
 use native.Mathlib.Omega.{arith}

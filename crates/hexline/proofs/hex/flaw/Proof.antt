@@ -1,4 +1,4 @@
--- `crate::characters::flaw` meets its contract: a difference from `0` or from `a` that wraps tells the range.
+-- `hexline::hex::flaw` meets its contract: a difference from `0` or from `a` that wraps tells the range.
 use native.Mathlib.Omega.{arith}
 use borrow.Author.Needs.{needs}
 use Rattle.hexline.proofs.Characters as characters

@@ -1,4 +1,4 @@
--- `crate::characters::values` meets its contract: each turn puts one value at its character.
+-- `hexline::hex::values` meets its contract: each turn puts one value at its character.
 use Prim.Native.Nat.{_-_, _≤_}
 use mathlib.Core.Path.{_≡_, refl, _∙_}
 use native.Mathlib.Omega.{arith}
