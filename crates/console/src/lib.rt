@@ -2,4 +2,5 @@
 pub mod hex;
 pub mod input;
 pub mod key;
+pub mod lines;
 pub mod print;

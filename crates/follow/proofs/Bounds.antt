@@ -1,12 +1,10 @@
--- What following takes of a piece, and prints.
+-- What following takes of a piece.
 use Prim.Native.Nat.{ℕ, _<_, _≤_}
 use mathlib.Core.Path.{_≡_, ap}
 use mathlib.Core.List.{List}
 use native.Mathlib.Omega.{arith}
 use lib.ListN.{length}
-use Rattle.octets.specs.Room.{written}
 use Rattle.recording.specs.declared.stream.Begun.{Begun}
-use Rattle.recording.proofs.Bounds as bounds
 use Rattle.recording.proofs.Walks as walks
 use Rattle.recording.proofs.Joins as joins
 use Rattle.trunk.specs.declared.Trunk.{Trunk}
@@ -30,7 +28,3 @@ module _ (room : ℕ) (table : List ℕ) (cid : ℕ) (begun : Begun) (kept : Lis
         ap (λ (l : Followed). l .taken) is,
         joins.some-taken Trunk (lineFollowing table cid) 20032 room begun kept t piece enough some,
       )
-
-  pub prints-within : (out after : List ℕ) → after ≡ written out 0 (pieceFollowed room table cid begun kept t piece .text) → length after ≡ length out → r .used ≤ length after
-  prints-within out after holds same =
-      omega (arith, ap (λ (l : Followed). l .used) is, bounds.fits out after (pieceFollowed room table cid begun kept t piece .text) holds same)

@@ -1,18 +1,21 @@
 // The program `follow` (docs/FOLLOW.md): its argument is a sub-channel; a recording from standard input, what the sub-channel's trunk
 // does with it to standard output. It reads, has the crate `following` follow, and prints, in fixed memory. Where a write fails it
 // says so and stops.
-use provisioning::text::TextAnswer;
 use recording::stream::Begun;
 use recording::stream::MOST_KEPT;
+use streaming::input::Piece;
 use trunk::Trunk;
 use value::Value;
-ghost use Prim.Native.Nat.{_≤_};
+ghost use Prim.Native.Nat.{_<_, _≤_};
 ghost use lib.ListN.{length};
 ghost use Rattle.following.specs.Following.{mostFollowed};
+ghost use Rattle.streaming.specs.Pieces.{Within};
 
-// How the next line stands, the trunk, and whether printing went well so far.
+// Where a piece is followed up to, how the next line stands, the trunk, and whether printing went well.
 struct Stands {
-    begun: Begun,
+    at: usize,
+    have: usize,
+    number: u64,
     trunk: Trunk,
     well: bool,
 }
@@ -23,35 +26,10 @@ enum Argument {
     NoCid,
 }
 
-// Prints what is told, and answers whether that went well.
-fn print(out: &[u8], used: usize) -> bool
-    requires { ⌜ used ≤ length (now out) ⌝ }
-{
-    if io::write_all(libc::STDOUT_FILENO, &out[..used]) {
-        return true;
-    }
-    io::write_all(libc::STDERR_FILENO, b"follow: a write failed\n");
-    false
-}
-
-// Says of a refused text that it has a CR.
-fn say_cr(text: &[u8]) {
-    let mut i: usize = 0;
-    while i < text.len() {
-        if text[i] == 13 {
-            io::write_all(
-                libc::STDERR_FILENO,
-                b"follow: the text has CR, and a line ends with LF alone\n",
-            );
-            return;
-        }
-        i += 1;
-    }
-}
-
-// Follows a piece of the input, in as many parts as the room for the output asks.
-fn follow_all(
-    piece: &[u8],
+// Follows a piece of the input, as much of it as the room for the output takes: with room for a line, some of it.
+fn follow_piece(
+    input: &[u8],
+    piece: Piece,
     begun: Begun,
     kept: &mut [u8; MOST_KEPT],
     table: &[u16; 256],
@@ -59,82 +37,27 @@ fn follow_all(
     trunk: Trunk,
     out: &mut [u8],
 ) -> Stands
-    requires { ⌜ mostFollowed ≤ length (now out) ⌝ }
+    requires { ⌜ Within piece (length (now input)) ⌝ }
+    ensures { λ r. ⌜ (mostFollowed ≤ length (now (out .entry)) → piece .from < piece .to → piece .from < r .at) ⌝ }
 {
-    let mut stands = begun;
-    let mut after = trunk;
-    let mut at: usize = 0;
-    while at < piece.len() {
-        let told = following::stream::follow_piece(
-            &piece[at..],
-            stands,
-            kept,
-            table,
-            cid,
-            after,
-            out,
-        );
-        stands = Begun {
-            have: told.have,
-            number: told.number,
-        };
-        let then = told.trunk;
-        after = then;
-        if !print(out, told.used) {
-            return Stands {
-                begun: stands,
-                trunk: after,
-                well: false,
-            };
-        }
-        at += told.taken;
-    }
+    let from = piece.from;
+    let to = piece.to;
+    let told = following::stream::follow_piece(
+        &input[from..to],
+        begun,
+        kept,
+        table,
+        cid,
+        trunk,
+        out,
+    );
+    let after = told.trunk;
     Stands {
-        begun: stands,
+        at: from + told.taken,
+        have: told.have,
+        number: told.number,
         trunk: after,
-        well: true,
-    }
-}
-
-// Follows piece after piece, to the end of the input.
-fn follow_more(
-    input: &mut [u8],
-    begun: Begun,
-    kept: &mut [u8; MOST_KEPT],
-    table: &[u16; 256],
-    cid: u8,
-    trunk: Trunk,
-    out: &mut [u8],
-) -> Stands
-    requires { ⌜ mostFollowed ≤ length (now out) ⌝ }
-{
-    let mut stands = begun;
-    let mut after = trunk;
-    // An end that no run reaches.
-    let mut turns = u64::MAX;
-    while 0 < turns {
-        turns -= 1;
-        let n = io::count(libc::read(libc::STDIN_FILENO, input), input);
-        if n == 0 {
-            return Stands {
-                begun: stands,
-                trunk: after,
-                well: true,
-            };
-        }
-        let told = follow_all(&input[..n], stands, kept, table, cid, after, out);
-        if !told.well {
-            return told;
-        }
-        let next = told.begun;
-        stands = next;
-        let then = told.trunk;
-        after = then;
-    }
-    Stands {
-        begun: stands,
-        trunk: after,
-        well: true,
+        well: streaming::output::print(b"follow", out, told.used),
     }
 }
 
@@ -148,68 +71,57 @@ fn finish(
     out: &mut [u8],
 ) {
     let used = following::stream::follow_last(begun, kept, table, cid, trunk, out);
-    print(out, used);
+    streaming::output::print(b"follow", out, used);
 }
 
-// Follows what comes behind the text: the octets of the first piece behind it, all further pieces, and a last line without LF.
-fn follow_rest(
+// Follows piece after piece, from the one behind the text to the end of the input, and a last line without LF.
+fn follow_all(
     input: &mut [u8],
-    from: usize,
-    to: usize,
+    first: Piece,
     kept: &mut [u8; MOST_KEPT],
     table: &[u16; 256],
     cid: u8,
     out: &mut [u8],
-)
-    requires { ⌜ from ≤ to ⌝ }
-    requires { ⌜ to ≤ length (now input) ⌝ }
-    requires { ⌜ mostFollowed ≤ length (now out) ⌝ }
-{
-    let none = Begun { have: 0, number: 0 };
-    let first = follow_all(
-        &input[from..to],
-        none,
-        kept,
-        table,
-        cid,
-        trunk::fresh(),
-        out,
-    );
-    if first.well {
-        let begun = first.begun;
-        let after = first.trunk;
-        let last = follow_more(input, begun, kept, table, cid, after, out);
-        if last.well {
-            let end = last.begun;
-            let then = last.trunk;
-            finish(end, kept, table, cid, then, out);
+) {
+    let mut left = first;
+    let mut begun = Begun { have: 0, number: 0 };
+    let mut trunk = trunk::fresh();
+    // An end that no run reaches.
+    let mut turns = u64::MAX;
+    while 0 < turns {
+        turns -= 1;
+        let piece = streaming::input::next(input, left);
+        if piece.from == piece.to {
+            finish(begun, kept, table, cid, trunk, out);
+            return;
         }
+        let stands = follow_piece(input, piece, begun, kept, table, cid, trunk, out);
+        if !stands.well {
+            return;
+        }
+        left = Piece {
+            from: stands.at,
+            to: piece.to,
+        };
+        begun = Begun {
+            have: stands.have,
+            number: stands.number,
+        };
+        let after = stands.trunk;
+        trunk = after;
     }
-}
-
-// Prints the lines of a refused text, and answers whether that went well.
-fn refuse(out: &mut [u8], number: u8, line: usize) -> bool {
-    let used = printing::refused::put_refused_text(out, 0, number, line);
-    print(out, used)
 }
 
 // Follows a recording for a sub-channel.
 fn follow(cid: u8) {
     let mut input = io::large_buffer();
-    let mut out = io::large_buffer();
-    let mut kept = [0u8; MOST_KEPT];
     let mut table = [0u16; 256];
-    let n = io::read_full(libc::STDIN_FILENO, &mut input);
-    let end = recording::pieces::text_end(&input[..n]);
-    match provisioning::text::read_text(&input[..end], &mut table) {
-        TextAnswer::Taken(_) => {
-            follow_rest(&mut input, end, n, &mut kept, &table, cid, &mut out);
-        }
-        TextAnswer::Refused { number, line } => {
-            if refuse(&mut out, number, line) {
-                say_cr(&input[..end]);
-            }
-        }
+    let start = streaming::input::begin(b"follow", &mut input, &mut table);
+    if start.taken {
+        let mut kept = [0u8; MOST_KEPT];
+        let mut out = io::large_buffer();
+        let behind = start.behind;
+        follow_all(&mut input, behind, &mut kept, &table, cid, &mut out);
     }
 }
 

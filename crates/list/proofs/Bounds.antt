@@ -1,12 +1,10 @@
--- What a listing takes of a piece, and prints.
+-- What a listing takes of a piece.
 use Prim.Native.Nat.{ℕ, _<_, _≤_}
 use mathlib.Core.Path.{_≡_, ap}
 use mathlib.Core.List.{List}
 use native.Mathlib.Omega.{arith}
 use lib.ListN.{length}
-use Rattle.octets.specs.Room.{written}
 use Rattle.recording.specs.declared.stream.Begun.{Begun}
-use Rattle.recording.proofs.Bounds as bounds
 use Rattle.recording.proofs.Walks as walks
 use Rattle.recording.proofs.Joins as joins
 use Rattle.listing.specs.declared.stream.Listed.{Listed}
@@ -29,7 +27,3 @@ module _ (room : ℕ) (table : List ℕ) (begun : Begun) (kept piece : List ℕ)
         ap (λ (l : Listed). l .taken) is,
         joins.some-taken (Unit {0}) (tellLine table) 6709 room begun kept tt piece enough some,
       )
-
-  pub prints-within : (out after : List ℕ) → after ≡ written out 0 (pieceListed room table begun kept piece .text) → length after ≡ length out → r .used ≤ length after
-  prints-within out after holds same =
-      omega (arith, ap (λ (l : Listed). l .used) is, bounds.fits out after (pieceListed room table begun kept piece .text) holds same)

@@ -1,58 +1,31 @@
 // The digit sender and the two digit receivers.
+use crate::line::Kind;
+use dialled::Received;
 use dialled::Receiver;
 use dialling::Entry;
 use dialling::Sender;
 use dialling::Sending;
 use digits::layout::Window;
 
-pub struct Dialling {
-    sender: Sender,
+struct Receivers {
     first: Receiver,
     second: Receiver,
+}
+
+pub struct Dialling {
+    sender: Sender,
+    receivers: Receivers,
 }
 
 // As document 01 has them at their start.
 pub fn start_state() -> Dialling {
     Dialling {
         sender: dialling::fresh(),
-        first: dialled::fresh(),
-        second: dialled::fresh(),
-    }
-}
-
-// `digit=`: who, type, code, edge, level.
-pub fn digit(dialling: Dialling, octets: &[u8]) -> Dialling {
-    let sender = dialling.sender;
-    let taken = dialling::send(
-        sender,
-        Entry {
-            on: octets::octet(octets, 1) == 1,
-            code: octets::octet(octets, 2),
-            edge: octets::octet(octets, 3),
-            level: console::hex::signed(octets::octet(octets, 4)),
+        receivers: Receivers {
+            first: dialled::fresh(),
+            second: dialled::fresh(),
         },
-    );
-    let after = taken.sender;
-    let first = dialling.first;
-    let second = dialling.second;
-    let now = Dialling {
-        sender: after,
-        first,
-        second,
-    };
-    let answer = taken.answer;
-    match answer {
-        Sending::BadEntry(number) => console::print::number(b"refused=", number as u64),
-        Sending::Unsent => console::print::name(b"unsent="),
-        Sending::Sent(sent) => {
-            let mut payload = [0u8; 8];
-            // It is written: crates/dialling/specs/SenderClaims.antt.
-            digits::layout::put_digits(&mut payload, 0, sent);
-            console::print::octets(b"sent=", &payload);
-            return hear(now, octets, &payload);
-        }
     }
-    now
 }
 
 // A window as it is printed: type, edge, code.
@@ -75,78 +48,108 @@ fn carried(count: u8, periods: [Window; 3]) {
     }
 }
 
+// What a receiver answers to a payload.
+fn show(received: Received) {
+    if crate::line::accepted(received.number, received.fills) {
+        let fill = received.fill;
+        window(b"with=", fill);
+        let periods = received.periods;
+        carried(received.carried, periods);
+    }
+}
+
 // One receiver gets a payload.
 fn receive(number: u64, receiver: Receiver, payload: &[u8]) -> Receiver {
     console::print::number(b"receiver=", number);
     let received = dialled::receive(receiver, payload);
+    show(received);
     let after = received.receiver;
-    if received.number != refusal::SOUND {
-        console::print::number(b"refused=", received.number as u64);
-        return after;
-    }
-    console::print::number(b"filled=", received.fills as u64);
-    let fill = received.fill;
-    window(b"with=", fill);
-    let periods = received.periods;
-    carried(received.carried, periods);
     after
 }
 
-// The receivers that the line names get a payload.
-fn hear(dialling: Dialling, octets: &[u8], payload: &[u8]) -> Dialling {
-    let mut first = dialling.first;
-    let mut second = dialling.second;
-    if crate::line::first_gets(octets) {
-        first = receive(1, first, payload);
-    }
-    if crate::line::second_gets(octets) {
-        second = receive(2, second, payload);
-    }
-    let sender = dialling.sender;
-    Dialling {
-        sender,
-        first,
-        second,
+// What a line of a kind does to one receiver that it names: `digits=`, a payload; `voice=`; `fresh=`.
+fn get(kind: Kind, number: u64, receiver: Receiver, payload: &[u8]) -> Receiver {
+    match kind {
+        Kind::Digits => receive(number, receiver, payload),
+        Kind::Voice => dialled::hear_voice(receiver),
+        Kind::Fresh => dialled::fresh(),
+        _ => receiver,
     }
 }
 
-// `digits=`: who, and a payload from elsewhere.
-pub fn digits(dialling: Dialling, octets: &[u8]) -> Dialling {
-    hear(dialling, octets, crate::line::behind(octets, 1))
+// What it does to those that *who* names: 1 the first, 2 the second, 3 both.
+fn hear(kind: Kind, who: u8, receivers: Receivers, payload: &[u8]) -> Receivers {
+    let mut first = receivers.first;
+    let mut second = receivers.second;
+    if who % 2 == 1 {
+        first = get(kind, 1, first, payload);
+    }
+    if 1 < who {
+        second = get(kind, 2, second, payload);
+    }
+    Receivers { first, second }
 }
 
-// `voice=`: who.
-pub fn voice(dialling: Dialling, octets: &[u8]) -> Dialling {
-    let mut first = dialling.first;
-    let mut second = dialling.second;
-    if crate::line::first_gets(octets) {
-        first = dialled::hear_voice(first);
-    }
-    if crate::line::second_gets(octets) {
-        second = dialled::hear_voice(second);
-    }
-    let sender = dialling.sender;
-    Dialling {
-        sender,
-        first,
-        second,
+// Prints what becomes of an entry. What is sent comes to the receivers that *who* names.
+fn tell(answer: Sending, who: u8, receivers: Receivers) -> Receivers {
+    match answer {
+        Sending::BadEntry(number) => {
+            console::print::number(b"refused=", number as u64);
+            receivers
+        }
+        Sending::Unsent => {
+            console::print::name(b"unsent=");
+            receivers
+        }
+        Sending::Sent(sent) => {
+            let mut payload = [0u8; 8];
+            // It is written: crates/dialling/specs/SenderClaims.antt.
+            digits::layout::put_digits(&mut payload, 0, sent);
+            console::print::octets(b"sent=", &payload);
+            hear(Kind::Digits, who, receivers, &payload)
+        }
     }
 }
 
-// `fresh=`: who.
-pub fn fresh(dialling: Dialling, octets: &[u8]) -> Dialling {
-    let mut first = dialling.first;
-    let mut second = dialling.second;
-    if crate::line::first_gets(octets) {
-        first = dialled::fresh();
+// The entry of a line: who, type, code, edge, level.
+fn entry(octets: &[u8]) -> Entry {
+    Entry {
+        on: octets::octet(octets, 1) == 1,
+        code: octets::octet(octets, 2),
+        edge: octets::octet(octets, 3),
+        level: console::hex::signed(octets::octet(octets, 4)),
     }
-    if crate::line::second_gets(octets) {
-        second = dialled::fresh();
-    }
+}
+
+// `digit=`: an entry is sent.
+fn digit(octets: &[u8], dialling: Dialling) -> Dialling {
     let sender = dialling.sender;
+    let receivers = dialling.receivers;
+    let taken = dialling::send(sender, entry(octets));
+    let answer = taken.answer;
+    let after = taken.sender;
     Dialling {
-        sender,
-        first,
-        second,
+        sender: after,
+        receivers: tell(answer, octets::octet(octets, 0), receivers),
+    }
+}
+
+// A line of a kind; one that is not about digits changes nothing.
+pub fn take(kind: Kind, octets: &[u8], dialling: Dialling) -> Dialling {
+    match kind {
+        Kind::Digit => digit(octets, dialling),
+        _ => {
+            let sender = dialling.sender;
+            let receivers = dialling.receivers;
+            Dialling {
+                sender,
+                receivers: hear(
+                    kind,
+                    octets::octet(octets, 0),
+                    receivers,
+                    crate::line::behind(octets, 1),
+                ),
+            }
+        }
     }
 }

@@ -1,12 +1,19 @@
 // The signalling sender and the two signalling receivers.
+use crate::line::Kind;
+use seized::Received;
 use seized::Receiver;
 use seizing::Entry;
 use seizing::Sender;
+use seizing::Sent;
+
+struct Receivers {
+    first: Receiver,
+    second: Receiver,
+}
 
 pub struct Seizing {
     sender: Sender,
-    first: Receiver,
-    second: Receiver,
+    receivers: Receivers,
 }
 
 // As document 01 has them at their start; the start value is 0.
@@ -14,64 +21,12 @@ pub fn start_state() -> Seizing {
     let started = seizing::start(0);
     let sender = started.sender;
     Seizing {
-        sender: sender,
-        first: seized::fresh(),
-        second: seized::fresh(),
-    }
-}
-
-// `start=`: the start value.
-pub fn start(seizing: Seizing, octets: &[u8]) -> Seizing {
-    let started = seizing::start(octets::octet(octets, 0));
-    if started.number != refusal::SOUND {
-        console::print::number(b"refused=", started.number as u64);
-        return seizing;
-    }
-    console::print::name(b"started=");
-    let sender = started.sender;
-    let first = seizing.first;
-    let second = seizing.second;
-    Seizing {
         sender,
-        first,
-        second,
-    }
-}
-
-// `samples=`: who, alarm, ten samples.
-pub fn samples(seizing: Seizing, octets: &[u8]) -> Seizing {
-    let mut samples = [0u8; 10];
-    octets::put_both(&mut samples, 0, crate::line::behind(octets, 2), b"");
-    let sender = seizing.sender;
-    let sent = seizing::send(
-        sender,
-        Entry {
-            alarm: octets::octet(octets, 1) == 1,
-            samples,
+        receivers: Receivers {
+            first: seized::fresh(),
+            second: seized::fresh(),
         },
-    );
-    let after = sent.sender;
-    let first = seizing.first;
-    let second = seizing.second;
-    let now = Seizing {
-        sender: after,
-        first,
-        second,
-    };
-    if sent.number != refusal::SOUND {
-        console::print::number(b"refused=", sent.number as u64);
-        return now;
     }
-    if !sent.due {
-        console::print::name(b"unsent=");
-        return now;
-    }
-    let content = sent.signalling;
-    let mut payload = [0u8; 16];
-    // What is sent has sixteen octets, and no sample out of range.
-    signalling::layout::put_signalling(&mut payload, 0, content);
-    console::print::octets(b"sent=", &payload);
-    hear(now, octets, &payload)
 }
 
 // The carried periods, of ten samples each.
@@ -88,62 +43,125 @@ fn carried(count: u8, periods: &[u8; 30]) {
     }
 }
 
+// The value and the alarm of a receiver.
+fn current(value: u8, alarm: bool) {
+    console::print::number(b"value=", value as u64);
+    let alarmed: u64 = if alarm { 1 } else { 0 };
+    console::print::number(b"alarm=", alarmed);
+}
+
+// What a receiver answers to a payload.
+fn show(received: Received) {
+    if crate::line::accepted(received.number, received.fills) {
+        console::print::octets(b"with=", &[received.fill]);
+        let periods = received.periods;
+        carried(received.carried, &periods);
+        let after = received.receiver;
+        current(after.value, after.alarm);
+    }
+}
+
 // One receiver gets a payload.
 fn receive(number: u64, receiver: Receiver, payload: &[u8]) -> Receiver {
     console::print::number(b"receiver=", number);
     let received = seized::receive(receiver, payload);
+    show(received);
     let after = received.receiver;
-    if received.number != refusal::SOUND {
-        console::print::number(b"refused=", received.number as u64);
-        return after;
-    }
-    console::print::number(b"filled=", received.fills as u64);
-    console::print::octets(b"with=", &[received.fill]);
-    let periods = received.periods;
-    carried(received.carried, &periods);
-    console::print::number(b"value=", after.value as u64);
-    let alarm: u64 = if after.alarm { 1 } else { 0 };
-    console::print::number(b"alarm=", alarm);
     after
 }
 
-// The receivers that the line names get a payload.
-fn hear(seizing: Seizing, octets: &[u8], payload: &[u8]) -> Seizing {
-    let mut first = seizing.first;
-    let mut second = seizing.second;
-    if crate::line::first_gets(octets) {
-        first = receive(1, first, payload);
-    }
-    if crate::line::second_gets(octets) {
-        second = receive(2, second, payload);
-    }
-    let sender = seizing.sender;
-    Seizing {
-        sender,
-        first,
-        second,
+// What a line of a kind does to one receiver that it names: `signalling=`, a payload; `fresh=`.
+fn get(kind: Kind, number: u64, receiver: Receiver, payload: &[u8]) -> Receiver {
+    match kind {
+        Kind::Signalling => receive(number, receiver, payload),
+        Kind::Fresh => seized::fresh(),
+        _ => receiver,
     }
 }
 
-// `signalling=`: who, and a payload from elsewhere.
-pub fn signalling(seizing: Seizing, octets: &[u8]) -> Seizing {
-    hear(seizing, octets, crate::line::behind(octets, 1))
+// What it does to those that *who* names: 1 the first, 2 the second, 3 both.
+fn hear(kind: Kind, who: u8, receivers: Receivers, payload: &[u8]) -> Receivers {
+    let mut first = receivers.first;
+    let mut second = receivers.second;
+    if who % 2 == 1 {
+        first = get(kind, 1, first, payload);
+    }
+    if 1 < who {
+        second = get(kind, 2, second, payload);
+    }
+    Receivers { first, second }
 }
 
-// `fresh=`: who.
-pub fn fresh(seizing: Seizing, octets: &[u8]) -> Seizing {
-    let mut first = seizing.first;
-    let mut second = seizing.second;
-    if crate::line::first_gets(octets) {
-        first = seized::fresh();
+// Prints what becomes of an entry. What is sent comes to the receivers that *who* names.
+fn tell(sent: Sent, who: u8, receivers: Receivers) -> Receivers {
+    if sent.number != refusal::SOUND {
+        console::print::number(b"refused=", sent.number as u64);
+        return receivers;
     }
-    if crate::line::second_gets(octets) {
-        second = seized::fresh();
+    if !sent.due {
+        console::print::name(b"unsent=");
+        return receivers;
     }
+    let content = sent.signalling;
+    let mut payload = [0u8; 16];
+    // What is sent has sixteen octets, and no sample out of range.
+    signalling::layout::put_signalling(&mut payload, 0, content);
+    console::print::octets(b"sent=", &payload);
+    hear(Kind::Signalling, who, receivers, &payload)
+}
+
+// The entry of a line: who, alarm, ten samples.
+fn entry(octets: &[u8]) -> Entry {
+    let mut samples = [0u8; 10];
+    octets::put_octets(&mut samples, 0, crate::line::behind(octets, 2));
+    Entry {
+        alarm: octets::octet(octets, 1) == 1,
+        samples,
+    }
+}
+
+// `samples=`: an entry is sent.
+fn samples(octets: &[u8], seizing: Seizing) -> Seizing {
     let sender = seizing.sender;
+    let receivers = seizing.receivers;
+    let sent = seizing::send(sender, entry(octets));
+    let after = sent.sender;
     Seizing {
-        sender,
-        first,
-        second,
+        sender: after,
+        receivers: tell(sent, octets::octet(octets, 0), receivers),
+    }
+}
+
+// `start=`: the sender from a start value.
+fn start(octets: &[u8], sender: Sender) -> Sender {
+    let started = seizing::start(octets::octet(octets, 0));
+    if started.number != refusal::SOUND {
+        console::print::number(b"refused=", started.number as u64);
+        return sender;
+    }
+    console::print::name(b"started=");
+    let anew = started.sender;
+    anew
+}
+
+// A line of a kind; one that is not about seizure bits changes nothing.
+pub fn take(kind: Kind, octets: &[u8], seizing: Seizing) -> Seizing {
+    let sender = seizing.sender;
+    let receivers = seizing.receivers;
+    match kind {
+        Kind::Start => Seizing {
+            sender: start(octets, sender),
+            receivers,
+        },
+        Kind::Samples => samples(octets, seizing),
+        _ => Seizing {
+            sender,
+            receivers: hear(
+                kind,
+                octets::octet(octets, 0),
+                receivers,
+                crate::line::behind(octets, 1),
+            ),
+        },
     }
 }

@@ -1,4 +1,6 @@
 // The kinds of line, their keys and their octets (docs/UNIT.md, "Input").
+ghost use Rattle.io.specs.Counts.{Counts};
+
 pub enum Content {
     Voice,
     Digits,
@@ -18,7 +20,8 @@ pub enum Kind {
     Unknown,
 }
 
-pub fn kind_of(text: &[u8]) -> Kind {
+// The kind that the key of a line names.
+fn kind_of(text: &[u8]) -> Kind {
     if octets::text::starts(text, b"frame=") {
         return Kind::Frame;
     }
@@ -59,6 +62,14 @@ fn written_kind(text: &[u8]) -> Kind {
     Kind::Unknown
 }
 
+// The octets of a room that are in use.
+pub fn front(room: &[u8], size: usize) -> &[u8] {
+    if room.len() < size {
+        return &room[..0];
+    }
+    &room[0..size]
+}
+
 // A number of two octets, the high one first.
 pub fn pair(octets: &[u8], at: usize) -> u16 {
     if at < octets.len() {
@@ -83,7 +94,7 @@ fn truth(octets: &[u8], at: usize) -> bool {
 }
 
 // Whether a line of the kind has these octets: as many as it takes, and each in its range.
-pub fn fits(kind: Kind, octets: &[u8]) -> bool {
+fn fits(kind: Kind, octets: &[u8]) -> bool {
     match kind {
         Kind::Frame => octets.len() <= MOST,
         Kind::Silence => octets.len() <= MOST,
@@ -113,5 +124,29 @@ fn content_fits(content: Content, octets: &[u8]) -> bool {
         }
         Content::Sid => octets.len() == 5 && truth(octets, 2),
         Content::Data => body_fits(octets, 6) && truth(octets, 2) && truth(octets, 3),
+    }
+}
+
+// What a line is: its kind, and how many octets it states.
+pub struct Stated {
+    pub kind: Kind,
+    pub size: usize,
+}
+
+// The kind and the octets of a line that has such octets as its kind takes. Any other is malformed, that is answered, and it is of no
+// kind.
+pub fn known(number: u64, text: &[u8], room: &mut [u8]) -> Stated
+    ensures { λ r. ⌜ Counts (r .size) (now (room .exit)) ⌝ }
+{
+    let kind = kind_of(text);
+    let decoded = console::hex::decode(text, console::key::size(text), room);
+    let size = decoded.size;
+    if decoded.sound && fits(kind, &room[..size]) {
+        return Stated { kind, size };
+    }
+    console::lines::malformed(number);
+    Stated {
+        kind: Kind::Unknown,
+        size: 0,
     }
 }

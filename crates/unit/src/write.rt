@@ -1,10 +1,34 @@
-// Sub-frames written, and what the writer answers.
+// The lent frame: sub-frames written into it, and what the writer answers.
 use crate::line::Content;
+use crate::line::Kind;
 use counts::DataCount;
 use counts::VoiceCount;
 use place::Writer;
 use writer::primary::Primary;
 use writer::signalled::Signalled;
+
+// How many octets the lent frame has, and where the writer stands.
+pub struct Lent {
+    room: usize,
+    writer: Writer,
+}
+
+// No frame is lent.
+pub fn none() -> Lent {
+    Lent {
+        room: 0,
+        writer: place::fresh(),
+    }
+}
+
+// Every octet of the lent frame is `ee`.
+fn cleared(lent: &mut [u8]) {
+    let mut i: usize = 0;
+    while i < lent.len() {
+        lent[i] = 0xee;
+        i += 1;
+    }
+}
 
 // Prints the writer after a sub-frame.
 fn taken(next: Writer) -> Writer {
@@ -34,7 +58,7 @@ fn signalled(answer: Signalled, writer: Writer) -> Writer {
 }
 
 // Writes the content of a line: last and cid stand first in every line.
-pub fn write(
+fn write(
     content: Content,
     frame: &mut [u8],
     writer: Writer,
@@ -134,4 +158,30 @@ fn write_data(
         crate::contents::body(octets, 6),
     );
     primary(answer, writer)
+}
+
+// A line of a kind; one that is not about the lent frame changes nothing.
+pub fn take(kind: Kind, octets: &[u8], table: &[u16; 256], lent: &mut [u8], stands: Lent) -> Lent {
+    match kind {
+        Kind::Room => {
+            cleared(lent);
+            Lent {
+                room: crate::line::pair(octets, 0) as usize,
+                writer: place::fresh(),
+            }
+        }
+        Kind::Shown => {
+            console::print::octets(b"lent=", crate::line::front(lent, stands.room));
+            stands
+        }
+        Kind::Written(content) => {
+            let room = octets::least(stands.room, lent.len());
+            let writer = stands.writer;
+            Lent {
+                room,
+                writer: write(content, &mut lent[0..room], writer, table, octets),
+            }
+        }
+        _ => stands,
+    }
 }

@@ -1,6 +1,6 @@
 -- `trial::run` is safe and ends: the measure is how many lines more could be numbered.
 use Prim.Native.Nat.{_-_, _^_}
-use mathlib.Core.Path.{_≡_}
+use mathlib.Core.Path.{_≡_, _∙_}
 use native.Mathlib.Omega.{arith}
 use lib.ListN.{length}
 use borrow.Author.Needs.{needs}
@@ -8,10 +8,10 @@ use Rattle.trial.proofs.run.Statement.{statement}
 use Rattle.trial.proofs.run.Tie as tie
 
 abbrev Inv-loop : tie.InvT-loop
-Inv-loop block₀ room₀ parties₀ input₀ number₀ block room parties input number = (length block ≡ length block₀) × (length room ≡ length room₀)
+Inv-loop block₀ text₀ parties₀ input₀ number₀ block text parties input number = (length block ≡ length block₀) × (length text ≡ length text₀)
 
 abbrev μ-loop : tie.MeasureT-loop
-μ-loop block₀ room₀ parties₀ input₀ number₀ block room parties input number = 2 ^ 64 - number
+μ-loop block₀ text₀ parties₀ input₀ number₀ block text parties input number = 2 ^ 64 - number
 
 start-state-requires : tie.Need-start-state-requires Inv-loop μ-loop
 start-state-requires c κs = search needs
@@ -25,8 +25,8 @@ loop-holds c = search needs
 add-number : tie.Need-add-number Inv-loop μ-loop
 add-number c = omega arith
 
-turn-requires : tie.Need-turn-requires Inv-loop μ-loop
-turn-requires c κs = search needs
+read-requires : tie.Need-read-requires Inv-loop μ-loop
+read-requires c κs = search needs
 
 same-length : tie.Need-same-length Inv-loop μ-loop
 same-length c = search needs
@@ -37,11 +37,23 @@ same-length-2 c = search needs
 returns : tie.Need-returns Inv-loop μ-loop
 returns c = search needs
 
+sub-answer : tie.Need-sub-answer Inv-loop μ-loop
+sub-answer c = search needs
+
+part-answer-start : tie.Need-part-answer-start Inv-loop μ-loop
+part-answer-start c = search needs
+
+part-answer-end : tie.Need-part-answer-end Inv-loop μ-loop
+part-answer-end c = search needs
+
+answer-requires : tie.Need-answer-requires Inv-loop μ-loop
+answer-requires c κs = search needs
+
 loop-less : tie.Need-loop-less Inv-loop μ-loop
-loop-less c = omega arith
+loop-less c = omega (arith, c .before .before .before .before .before .before .before .before .before .before .before .before .loop-test .taken)
 
 loop-again : tie.Need-loop-again Inv-loop μ-loop
-loop-again c = search needs
+loop-again c = (c .before .before .before .before .before .before .before .before .before .read .kept .0 ∙ c .before .before .before .before .before .before .before .before .before .before .before .before .before .loop .inv .0, c .before .before .before .before .before .before .before .before .before .read .kept .1 .0 ∙ c .before .before .before .before .before .before .before .before .before .before .before .before .before .loop .inv .1)
 
 same-length-3 : tie.Need-same-length-3 Inv-loop μ-loop
 same-length-3 c = search needs
@@ -62,10 +74,14 @@ run-spec =
     start-state-requires-2
     loop-holds
     add-number
-    turn-requires
+    read-requires
     same-length
     same-length-2
     returns
+    sub-answer
+    part-answer-start
+    part-answer-end
+    answer-requires
     loop-less
     loop-again
     same-length-3

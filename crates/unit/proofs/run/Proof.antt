@@ -1,6 +1,6 @@
 -- `unit::run` is safe and ends: the measure is how many lines more could be numbered.
 use Prim.Native.Nat.{_-_, _^_}
-use mathlib.Core.Path.{_≡_}
+use mathlib.Core.Path.{_≡_, _∙_}
 use native.Mathlib.Omega.{arith}
 use lib.ListN.{length}
 use borrow.Author.Needs.{needs}
@@ -8,13 +8,18 @@ use Rattle.unit.proofs.run.Statement.{statement}
 use Rattle.unit.proofs.run.Tie as tie
 
 abbrev Inv-loop : tie.InvT-loop
-Inv-loop block₀ room₀ table frame₀ silence₀ lent₀ stands₀ input₀ number₀ block room frame silence lent stands input number = (length block ≡ length block₀) × (length room ≡ length room₀) × (length frame ≡ 1700) × (length silence ≡ 1700) × (length lent ≡ 1700)
+Inv-loop block₀ text₀ table frame₀ silence₀ lent₀ stands₀ input₀ number₀ block text frame silence lent stands input number =
+    (length block ≡ length block₀) × (length text ≡ length text₀)
 
 abbrev μ-loop : tie.MeasureT-loop
-μ-loop block₀ room₀ table frame₀ silence₀ lent₀ stands₀ input₀ number₀ block room frame silence lent stands input number = 2 ^ 64 - number
+μ-loop block₀ text₀ table frame₀ silence₀ lent₀ stands₀ input₀ number₀ block text frame silence lent stands input number =
+    2 ^ 64 - number
 
-fresh-requires : tie.Need-fresh-requires Inv-loop μ-loop
-fresh-requires c κs = search needs
+none-requires : tie.Need-none-requires Inv-loop μ-loop
+none-requires c κs = search needs
+
+none-requires-2 : tie.Need-none-requires-2 Inv-loop μ-loop
+none-requires-2 c κs = search needs
 
 loop-holds : tie.Need-loop-holds Inv-loop μ-loop
 loop-holds c = search needs
@@ -22,17 +27,8 @@ loop-holds c = search needs
 add-number : tie.Need-add-number Inv-loop μ-loop
 add-number c = omega arith
 
-slice-aggregate-turn : tie.Need-slice-aggregate-turn Inv-loop μ-loop
-slice-aggregate-turn c = search needs
-
-slice-aggregate-turn-2 : tie.Need-slice-aggregate-turn-2 Inv-loop μ-loop
-slice-aggregate-turn-2 c = search needs
-
-slice-aggregate-turn-3 : tie.Need-slice-aggregate-turn-3 Inv-loop μ-loop
-slice-aggregate-turn-3 c = search needs
-
-turn-requires : tie.Need-turn-requires Inv-loop μ-loop
-turn-requires c κs = search needs
+read-requires : tie.Need-read-requires Inv-loop μ-loop
+read-requires c κs = search needs
 
 same-length : tie.Need-same-length Inv-loop μ-loop
 same-length c = search needs
@@ -43,11 +39,23 @@ same-length-2 c = search needs
 returns : tie.Need-returns Inv-loop μ-loop
 returns c = search needs
 
+sub-answer : tie.Need-sub-answer Inv-loop μ-loop
+sub-answer c = search needs
+
+part-answer-start : tie.Need-part-answer-start Inv-loop μ-loop
+part-answer-start c = search needs
+
+part-answer-end : tie.Need-part-answer-end Inv-loop μ-loop
+part-answer-end c = search needs
+
+answer-requires : tie.Need-answer-requires Inv-loop μ-loop
+answer-requires c κs = search needs
+
 loop-less : tie.Need-loop-less Inv-loop μ-loop
-loop-less c = omega arith
+loop-less c = omega (arith, c .before .before .before .before .before .before .before .before .before .before .before .before .before .before .before .loop-test .taken)
 
 loop-again : tie.Need-loop-again Inv-loop μ-loop
-loop-again c = search needs
+loop-again c = (c .before .before .before .before .before .before .before .before .before .before .before .before .read .kept .0 ∙ c .before .before .before .before .before .before .before .before .before .before .before .before .before .before .before .before .loop .inv .0, c .before .before .before .before .before .before .before .before .before .before .before .before .read .kept .1 .0 ∙ c .before .before .before .before .before .before .before .before .before .before .before .before .before .before .before .before .loop .inv .1)
 
 same-length-3 : tie.Need-same-length-3 Inv-loop μ-loop
 same-length-3 c = search needs
@@ -64,16 +72,18 @@ run-spec =
     (tie.spec
     Inv-loop
     μ-loop
-    fresh-requires
+    none-requires
+    none-requires-2
     loop-holds
     add-number
-    slice-aggregate-turn
-    slice-aggregate-turn-2
-    slice-aggregate-turn-3
-    turn-requires
+    read-requires
     same-length
     same-length-2
     returns
+    sub-answer
+    part-answer-start
+    part-answer-end
+    answer-requires
     loop-less
     loop-again
     same-length-3

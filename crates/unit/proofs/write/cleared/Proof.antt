@@ -1,11 +1,11 @@
--- `unit::cleared` is safe and ends, and leaves as many octets.
+-- `unit::write::cleared` is safe and ends, and leaves as many octets.
 use Prim.Native.Nat.{_-_}
 use mathlib.Core.Path.{_≡_}
 use native.Mathlib.Omega.{arith}
 use lib.ListN.{length, length-set}
 use borrow.Author.Needs.{needs}
-use Rattle.unit.proofs.cleared.Statement.{statement}
-use Rattle.unit.proofs.cleared.Tie as tie
+use Rattle.unit.proofs.write.cleared.Statement.{statement}
+use Rattle.unit.proofs.write.cleared.Tie as tie
 
 abbrev Inv-loop : tie.InvT-loop
 Inv-loop lent₀ i₀ lent i = length lent ≡ length lent₀

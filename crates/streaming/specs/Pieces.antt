@@ -1,0 +1,14 @@
+-- How a recording starts: the piece behind its text, and whether the text is taken.
+use Prim.Native.Nat.{ℕ, _≤_}
+use mathlib.Core.Bool.{Bool, true, false}
+use Rattle.provisioning.specs.declared.text.TextAnswer.{TextAnswer}
+use Rattle.provisioning.specs.declared.text.TextAnswer.the-variants.{Taken, Refused}
+use Rattle.streaming.specs.declared.input.Piece.{Piece}
+
+-- a piece lies within a room of so many octets
+abbrev pub Within : Piece → ℕ → Type 0
+Within piece room = (piece .from ≤ piece .to) × (piece .to ≤ room)
+
+abbrev pub isTaken : TextAnswer → Bool
+isTaken (Taken blocks) = true
+isTaken (Refused number line) = false
