@@ -1,5 +1,5 @@
 -- The values of hex characters, one by one and in pairs, in the terms of the code.
-use Prim.Native.Nat.{ℕ, zero, suc, _+_, _-_, _*_, _/_, _<_, _≤_}
+use Prim.Native.Nat.{ℕ, zero, suc, _+_, _-_, _*_, _/_, _%_, _<_, _≤_}
 use mathlib.Core.Path.{_≡_, refl, sym, ap, _∙_}
 use mathlib.Core.List.{List, [], _∷_, _++_}
 use mathlib.Core.Bool.{Bool, true, false, cond}
@@ -7,12 +7,12 @@ use mathlib.Core.Logic.{_⊎_, inl, inr, ⊎-elim}
 use native.Mathlib.Omega.{arith}
 use native.Mathlib.Numerals.{add-one}
 use borrow.Author.Tests.{lt-ltb, le-ltb, ltb-false}
-use lib.Bits.{bitOr}
+use lib.Bits.{bitAnd, bitOr, and-block, and-mask}
 use lib.Dec.{eqb}
-use lib.ListN.{length, getD, set, take}
-use lib.Seq.{take-suc, getD-set-same, getD-set-other}
+use lib.ListN.{length, getD, take}
+use lib.Seq.{take-suc}
 use Rattle.refusal.specs.Order.{_or_}
-use Rattle.octets.proofs.Order.{lt-or-le, eq-or-ne}
+use Rattle.octets.proofs.Order.{lt-or-le}
 use Rattle.octets.proofs.Texts as texts
 use Rattle.hexline.specs.Hex.{hexValue, isOther, anyOther, paired}
 
@@ -88,26 +88,54 @@ module _ (c : ℕ) where
       (lt-or-le c 58))
       (lt-or-le c 48)
 
--- two characters of one value are one
-same : (c d : ℕ) → hexValue c ≤ 15 → hexValue c ≡ hexValue d → c ≡ d
-same c d v e =
-    ⊎-elim (λ p. ⊎-elim (λ q. omega (arith, p .1, q .1)) (λ q. absurd (omega (arith, p .0, q .0))) (place d (omega arith)))
-    (λ p. ⊎-elim (λ q. absurd (omega (arith, p .0, q .0))) (λ q. omega (arith, p .1, q .1)) (place d (omega arith)))
+-- how far a hex character stands from `0`: bit 4 tells a letter
+distance : (c : ℕ) → hexValue c ≤ 15 → (48 ≤ c) × ((c < 103) × (hexValue c + (c - 48) / 16 % 2 * 39 ≡ c - 48))
+distance c v =
+    ⊎-elim (λ p. (omega (arith, p .1), (omega (arith, p .0, p .1), omega (arith, p .0, p .1))))
+    (λ p. (omega (arith, p .1), (omega (arith, p .1), omega (arith, p .0, p .1))))
     (place c v)
 
--- a table of which the values below v stand at their characters
-abbrev pub Filled : List ℕ → ℕ → Type 0
-Filled table v = (c : ℕ) → hexValue c < v → getD table c 0 ≡ hexValue c
+-- two hex characters as one number, the first in its low half
+pub halves : (c d : ℕ) {both : ℕ} → both ≡ d * 256 + c → hexValue c ≤ 15 → (both % 256 ≡ c) × (both / 256 ≡ d)
+halves c d is first = (omega (arith, distance c first .1 .0), omega (arith, distance c first .1 .0))
 
-pub fill : (table : List ℕ) (v at : ℕ) → v ≤ 15 → at < length table → hexValue at ≡ v → Filled table v → Filled (set table at v) (v + 1)
-fill table v at small there is before c h =
-    ⊎-elim (λ (e : c ≡ at). rw e (getD-set-same table at v 0 there ∙ sym is))
-    (λ (n : c ≡ at → ⊥).
-    getD-set-other table at c v 0 n
-    ∙ before c
-    (⊎-elim (λ (l : hexValue c < v). l) (λ (m : v ≤ hexValue c). absurd (n (same c at (omega arith) (omega arith))))
-    (lt-or-le (hexValue c) v)))
-    (eq-or-ne c at)
+module _ (both : ℕ) (first : hexValue (both % 256) ≤ 15) (second : hexValue (both / 256) ≤ 15) where
+  abbrev c : ℕ
+  c = both % 256
+
+  abbrev d : ℕ
+  d = both / 256
+
+  letters : bitAnd ((both - 12336) / 16) 257 ≡ (d - 48) / 16 % 2 * 256 + (c - 48) / 16 % 2
+  letters =
+      let p = distance c first in
+      let q = distance d second in
+      let low = (d - 48) % 16 * 16 + (c - 48) / 16 in
+      let apart : (both - 12336) / 16 ≡ (d - 48) / 16 * 256 + low = omega (arith, p .0, p .1 .0, q .0, q .1 .0) in
+      let block : bitAnd ((d - 48) / 16 * 256 + low) 257 ≡ bitAnd ((d - 48) / 16) 1 * 256 + bitAnd low 1 =
+      and-block 8 ((d - 48) / 16) 1 low 1 (omega (arith, p .1 .0)) (omega arith) in
+      let one : bitAnd ((d - 48) / 16) 1 ≡ (d - 48) / 16 % 2 = and-mask ((d - 48) / 16) 1 in
+      let other : bitAnd low 1 ≡ low % 2 = and-mask low 1 in
+      rw apart (omega (arith, block, one, other))
+
+  pub values :
+      (12336 ≤ both) × (
+      (bitAnd ((both - 12336) / 16) 257 * 39 ≤ both - 12336)
+      × (both - 12336 - bitAnd ((both - 12336) / 16) 257 * 39 ≡ hexValue (both / 256) * 256 + hexValue (both % 256))
+      )
+  values =
+      let p = distance c first in
+      let q = distance d second in (
+        omega (arith, p .0, q .0),
+        (omega (arith, letters, p .0, p .1 .1, q .0, q .1 .1), omega (arith, letters, p .0, p .1 .1, q .0, q .1 .1)),
+      )
+
+-- two values in one number as one octet
+pub joined : {high low both : ℕ} → both ≡ low * 256 + high → high ≤ 15 → low ≤ 15 → (both * 16 + both / 256) % 256 ≡ high * 16 + low
+joined {high} {low} {both} is h l =
+    let part : both / 256 ≡ low = omega arith in
+    let whole : both * 16 + both / 256 ≡ low * 16 * 256 + (high * 16 + low) = omega (arith, part) in
+    rw whole (omega arith)
 
 -- whether another character is among the first ones
 other-more : (chars : List ℕ) (c : ℕ) → anyOther (chars ++ c ∷ []) ≡ (anyOther chars or isOther c)

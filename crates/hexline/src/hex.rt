@@ -1,8 +1,8 @@
 // Lower-case hex characters into octets (document 01, "Listing program").
 ghost use mathlib.Core.Path.{_≡_};
 ghost use mathlib.Core.Bool.{false, cond};
-ghost use Prim.Native.Nat.{ℕ, _+_, _/_, _<_, _≤_};
-ghost use lib.ListN.{length, getD};
+ghost use Prim.Native.Nat.{_+_, _*_, _/_, _%_, _≤_};
+ghost use lib.ListN.{length};
 ghost use Rattle.octets.specs.Room.{written};
 ghost use Rattle.hexline.specs.Hex.{hexValue, isOther, anyOther, paired};
 
@@ -32,26 +32,18 @@ pub(crate) fn any_other(chars: &[u8]) -> bool
     flaws == 1
 }
 
-// The character of a value below 16.
-fn character(value: usize) -> usize
-    requires { ⌜ value < 16 ⌝ }
-    ensures { λ r. ⌜ (r < 256) × (hexValue r ≡ value) ⌝ }
+// The octet of two hex characters, of which the first stands in the low half of a number. Both are told at once, which lets the
+// compiler take many pairs at a time: a letter stands 39 further from `0` than its value, and bit 4 of that distance tells it from a
+// digit.
+fn octet_of(both: u16) -> u8
+    requires { ⌜ hexValue (both % 256) ≤ 15 ⌝ }
+    requires { ⌜ hexValue (both / 256) ≤ 15 ⌝ }
+    ensures { λ r. ⌜ r ≡ hexValue (both % 256) * 16 + hexValue (both / 256) ⌝ }
 {
-    if value < 10 { 48 + value } else { 87 + value }
-}
-
-// The value of each hex character, at the character's place.
-fn values() -> [u8; 256]
-    ensures { λ r. ⌜ ((c : ℕ) → hexValue c ≤ 15 → getD r c 0 ≡ hexValue c) ⌝ }
-{
-    let mut table = [0u8; 256];
-    let mut value: usize = 0;
-    while value < 16 {
-        let at = character(value);
-        table[at] = value as u8;
-        value += 1;
-    }
-    table
+    let distances = both - 12336;
+    let letters = distances / 16 & 257;
+    let values = distances - letters * 39;
+    ((values * 16 + values / 256) % 256) as u8
 }
 
 // The octets of hex characters, at the start of `frame`.
@@ -60,13 +52,10 @@ pub(crate) fn decode(chars: &[u8], frame: &mut [u8])
     requires { ⌜ length (now chars) / 2 ≤ length (now frame) ⌝ }
     ensures { λ r. ⌜ now (frame .exit) ≡ written (now (frame .entry)) 0 (paired (now (chars .entry))) ⌝ }
 {
-    let table = values();
     let n = chars.len() / 2;
     let mut i: usize = 0;
     while i < n {
-        let high = table[octets::wide(chars[i * 2])];
-        let low = table[octets::wide(chars[i * 2 + 1])];
-        frame[i] = high * 16 + low;
+        frame[i] = octet_of(octets::double(chars[i * 2 + 1], chars[i * 2]));
         i += 1;
     }
 }

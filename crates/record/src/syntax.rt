@@ -1,7 +1,9 @@
 // A provisioned syntax with its m and seq, and which of them are listed (document 01, "Provisioning text").
 ghost use mathlib.Core.Path.{_≡_};
 ghost use Prim.Native.Nat.{ℕ, _/_, _%_, _^_};
-ghost use lib.Dec.{eqb};
+ghost use mathlib.Core.Bool.{cond, _&&_};
+ghost use lib.Dec.{ltb, eqb};
+ghost use Rattle.record.specs.declared.syntax.Standing.the-variants.{Listed, NotListed};
 ghost use Rattle.record.specs.Record.{mListed, seqListed, legal, withPair, place, syntaxAt};
 
 pub enum Syntax {
@@ -85,18 +87,33 @@ pub fn place_of(syntax: Syntax) -> u16
     }
 }
 
+// What stands at a place of that list.
+pub(crate) enum Standing {
+    Listed(Syntax),
+    NotListed,
+}
+
+pub(crate) fn listed_at(at: u16) -> Standing
+    ensures { λ r. ⌜ r ≡ cond (ltb 0 at && ltb at 8) (Listed (syntaxAt at)) NotListed ⌝ }
+{
+    match at {
+        1 => Standing::Listed(Syntax::Acelp),
+        2 => Standing::Listed(Syntax::Pcm),
+        3 => Standing::Listed(Syntax::G727),
+        4 => Standing::Listed(Syntax::G728),
+        5 => Standing::Listed(Syntax::G7231),
+        6 => Standing::Listed(Syntax::Data),
+        7 => Standing::Listed(Syntax::Fax),
+        _ => Standing::NotListed,
+    }
+}
+
 // The syntax at a place from 1 to 7.
 pub fn syntax_at(at: u16) -> Syntax
     ensures { λ r. ⌜ r ≡ syntaxAt at ⌝ }
 {
-    match at {
-        1 => Syntax::Acelp,
-        2 => Syntax::Pcm,
-        3 => Syntax::G727,
-        4 => Syntax::G728,
-        5 => Syntax::G7231,
-        6 => Syntax::Data,
-        7 => Syntax::Fax,
-        _ => Syntax::Fax,
+    match listed_at(at) {
+        Standing::Listed(syntax) => syntax,
+        Standing::NotListed => Syntax::Fax,
     }
 }

@@ -1,5 +1,6 @@
 // The provisioning table: a number for each CID, which packs the record of a provisioned one.
 use crate::syntax::Record;
+use crate::syntax::Standing;
 ghost use mathlib.Core.Path.{_≡_};
 ghost use mathlib.Core.Bool.{cond};
 ghost use Rattle.record.specs.Record.{packed, meaning, foundAt};
@@ -29,20 +30,17 @@ pub fn pack(given: Record) -> u16
 pub(crate) fn meaning(number: u16) -> Found
     ensures { λ r. ⌜ r ≡ meaning number ⌝ }
 {
-    // No syntax has the place 0, or one above 7.
-    if number < 32 {
-        return Found::Unprovisioned;
+    match crate::syntax::listed_at(number / 32) {
+        Standing::NotListed => Found::Unprovisioned,
+        Standing::Listed(syntax) => {
+            if crate::syntax::pair_listed(syntax, number) {
+                let m = (number / 2 % 16) as u8;
+                let seq = number % 2 == 1;
+                return Found::Provisioned(Record { syntax, m, seq });
+            }
+            Found::Unprovisioned
+        }
     }
-    if 255 < number {
-        return Found::Unprovisioned;
-    }
-    let syntax = crate::syntax::syntax_at(number / 32);
-    if crate::syntax::pair_listed(syntax, number) {
-        let m = (number / 2 % 16) as u8;
-        let seq = number % 2 == 1;
-        return Found::Provisioned(Record { syntax, m, seq });
-    }
-    Found::Unprovisioned
 }
 
 // What is provisioned on a CID; nothing is on 0 to 3, whatever the table holds there.

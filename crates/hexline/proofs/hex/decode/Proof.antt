@@ -1,77 +1,49 @@
 -- `hexline::hex::decode` meets its contract: each turn makes one octet of two characters.
-use Prim.Native.Nat.{_+_, _*_, _-_}
-use mathlib.Core.Path.{ap}
+use Prim.Native.Nat.{_-_}
 use native.Mathlib.Omega.{arith}
-use lib.ListN.{getD}
 use borrow.Author.Needs.{needs}
 use Rattle.hexline.proofs.Decoding as decoding
 use Rattle.hexline.proofs.hex.decode.Statement.{statement}
 use Rattle.hexline.proofs.hex.decode.Tie as tie
 
 abbrev Inv-loop : tie.InvT-loop
-Inv-loop chars frame₀ table n i₀ frame i = decoding.Going chars table frame₀ frame n i
+Inv-loop chars frame₀ n i₀ frame i = decoding.Going chars frame₀ frame n i
 
 abbrev μ-loop : tie.MeasureT-loop
-μ-loop chars frame₀ table n i₀ frame i = n - i
-
-values-requires : tie.Need-values-requires Inv-loop μ-loop
-values-requires c κs = search needs
+μ-loop chars frame₀ n i₀ frame i = n - i
 
 loop-holds : tie.Need-loop-holds Inv-loop μ-loop
-loop-holds c =
-    let a = c .before .before .before .args in decoding.begins (a .chars .now) (c .values .result) (a .frame .now) (c .values .ensures)
+loop-holds c = decoding.begins (c .before .before .args .chars .now) (c .before .before .args .frame .now)
 
-mul-wide : tie.Need-mul-wide Inv-loop μ-loop
-mul-wide c = search needs
+mul-double : tie.Need-mul-double Inv-loop μ-loop
+mul-double c = search needs
 
-shared-slice-read-wide : tie.Need-shared-slice-read-wide Inv-loop μ-loop
-shared-slice-read-wide c = search needs
+add-double : tie.Need-add-double Inv-loop μ-loop
+add-double c = search needs
 
-wide-requires : tie.Need-wide-requires Inv-loop μ-loop
-wide-requires c κs = search needs
+shared-slice-read-double : tie.Need-shared-slice-read-double Inv-loop μ-loop
+shared-slice-read-double c = search needs
 
-array-read-high : tie.Need-array-read-high Inv-loop μ-loop
-array-read-high c = omega (arith, c .wide .ensures, c .before .shared-slice-known2 .given (c .before .before .before .loop .i * 2))
+mul-double-2 : tie.Need-mul-double-2 Inv-loop μ-loop
+mul-double-2 c = search needs
 
-mul-wide-2 : tie.Need-mul-wide-2 Inv-loop μ-loop
-mul-wide-2 c = search needs
+shared-slice-read-double-2 : tie.Need-shared-slice-read-double-2 Inv-loop μ-loop
+shared-slice-read-double-2 c = search needs
 
-add-wide : tie.Need-add-wide Inv-loop μ-loop
-add-wide c = search needs
+double-requires : tie.Need-double-requires Inv-loop μ-loop
+double-requires c κs = search needs
 
-shared-slice-read-wide-2 : tie.Need-shared-slice-read-wide-2 Inv-loop μ-loop
-shared-slice-read-wide-2 c = search needs
-
-wide-requires-2 : tie.Need-wide-requires-2 Inv-loop μ-loop
-wide-requires-2 c κs = search needs
-
-array-read-low : tie.Need-array-read-low Inv-loop μ-loop
-array-read-low c =
-    omega (arith, c .wide2 .ensures, c .before .shared-slice-known3 .given (c .before .before .before .before .before .loop .i * 2 + 1))
-
-mul-frame : tie.Need-mul-frame Inv-loop μ-loop
-mul-frame c =
-    let start = c .before .before .before .before .before .before .before .before .before in
-    let l = c .before .before .before .before .before .loop in
-    let pair = decoding.small (l .inv) (start .pre .0) (start .pre .1) (c .before .before .before .before .loop-test .taken)
-    (ap (λ k. getD (c .before .before .before .before .before .before .values .result) k 0) (c .before .before .wide .ensures))
-    (ap (λ k. getD (c .before .before .before .before .before .before .values .result) k 0) (c .wide2 .ensures)) in
-    omega (arith, pair)
-
-add-frame : tie.Need-add-frame Inv-loop μ-loop
-add-frame c =
-    let start = c .before .before .before .before .before .before .before .before .before in
-    let l = c .before .before .before .before .before .loop in
-    let pair = decoding.small (l .inv) (start .pre .0) (start .pre .1) (c .before .before .before .before .loop-test .taken)
-    (ap (λ k. getD (c .before .before .before .before .before .before .values .result) k 0) (c .before .before .wide .ensures))
-    (ap (λ k. getD (c .before .before .before .before .before .before .values .result) k 0) (c .wide2 .ensures)) in
-    omega (arith, pair)
+octet-of-requires : tie.Need-octet-of-requires Inv-loop μ-loop
+octet-of-requires c κs =
+    let pre = c .before .before .before .before .before .before .before .pre in
+    let l = c .before .before .before .before .loop in
+    let more = c .before .before .before .loop-test .taken in
+    (decoding.first (l .inv) (pre .0) (pre .1) more (c .double .ensures), decoding.second (l .inv) (pre .0) (pre .1) more (c .double .ensures))
 
 slice-write-frame : tie.Need-slice-write-frame Inv-loop μ-loop
 slice-write-frame c =
-    let start = c .before .before .before .before .before .before .before .before .before in
-    let l = c .before .before .before .before .before .loop in
-    omega (arith, decoding.same-length (l .inv) (start .pre .0) (start .pre .1))
+    let pre = c .before .before .before .before .before .before .before .before .pre in
+    let l = c .before .before .before .before .before .loop in omega (arith, decoding.same-length (l .inv) (pre .0) (pre .1))
 
 add-i : tie.Need-add-i Inv-loop μ-loop
 add-i c = search needs
@@ -81,19 +53,17 @@ loop-less c = search needs
 
 loop-again : tie.Need-loop-again Inv-loop μ-loop
 loop-again c =
-    let start = c .before .before .before .before .before .before .before .before .before in
+    let pre = c .before .before .before .before .before .before .before .before .pre in
     let l = c .before .before .before .before .before .loop in
-    decoding.turn (l .inv) (start .pre .0) (start .pre .1) (c .before .before .before .before .loop-test .taken)
-    (ap (λ k. getD (c .before .before .before .before .before .before .values .result) k 0) (c .before .before .wide .ensures))
-    (ap (λ k. getD (c .before .before .before .before .before .before .values .result) k 0) (c .wide2 .ensures))
+    decoding.turn (l .inv) (pre .0) (pre .1) (c .before .before .before .before .loop-test .taken) (c .before .double .ensures) (c .octet-of .ensures)
 
 same-length : tie.Need-same-length Inv-loop μ-loop
 same-length c =
-    let pre = c .before .before .before .before .before .pre in decoding.same-length (c .before .loop .inv) (pre .0) (pre .1)
+    let pre = c .before .before .before .before .pre in decoding.same-length (c .before .loop .inv) (pre .0) (pre .1)
 
 returns : tie.Need-returns Inv-loop μ-loop
 returns c =
-    let pre = c .before .before .before .before .before .pre in decoding.done (c .before .loop .inv) (pre .0) (pre .1) (c .loop-test .left)
+    let pre = c .before .before .before .before .pre in decoding.done (c .before .loop .inv) (pre .0) (pre .1) (c .loop-test .left)
 
 pub decode-spec : {M : Type 1} → statement M
 decode-spec =
@@ -101,19 +71,14 @@ decode-spec =
     (tie.spec
     Inv-loop
     μ-loop
-    values-requires
     loop-holds
-    mul-wide
-    shared-slice-read-wide
-    wide-requires
-    array-read-high
-    mul-wide-2
-    add-wide
-    shared-slice-read-wide-2
-    wide-requires-2
-    array-read-low
-    mul-frame
-    add-frame
+    mul-double
+    add-double
+    shared-slice-read-double
+    mul-double-2
+    shared-slice-read-double-2
+    double-requires
+    octet-of-requires
     slice-write-frame
     add-i
     loop-less

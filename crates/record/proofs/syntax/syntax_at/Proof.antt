@@ -1,50 +1,28 @@
 -- `record::syntax::syntax_at` meets its contract.
-use borrow.Author.Tests.{ne-eqb}
-use Rattle.record.specs.Record.{syntaxAt}
+use mathlib.Core.Path.{sym, _∙_}
+use borrow.Author.Needs.{needs}
+use Rattle.record.proofs.Places as places
 use Rattle.record.proofs.syntax.syntax_at.Statement.{statement}
 use Rattle.record.proofs.syntax.syntax_at.Tie as tie
 
+listed-at-requires : tie.Need-listed-at-requires
+listed-at-requires c κs = search needs
+
+enum-known-syntax : tie.Need-enum-known-syntax
+enum-known-syntax c = search needs
+
+enum-told : tie.Need-enum-told
+enum-told c = search needs
+
 returns : tie.Need-returns
-unfolding syntaxAt
-returns c = rw (c .match .keys1)
+returns c =
+    places.listed _ _ (sym (c .before .syntax .given .1) ∙ c .before .before .before .listed-at .ensures) .1 .1
 
 returns-2 : tie.Need-returns-2
-unfolding syntaxAt
-returns-2 c = rw (c .match .keys2)
-
-returns-3 : tie.Need-returns-3
-unfolding syntaxAt
-returns-3 c = rw (c .match .keys3)
-
-returns-4 : tie.Need-returns-4
-unfolding syntaxAt
-returns-4 c = rw (c .match .keys4)
-
-returns-5 : tie.Need-returns-5
-unfolding syntaxAt
-returns-5 c = rw (c .match .keys5)
-
-returns-6 : tie.Need-returns-6
-unfolding syntaxAt
-returns-6 c = rw (c .match .keys6)
-
-returns-7 : tie.Need-returns-7
-unfolding syntaxAt
-returns-7 c = rw (c .match .keys7)
-
-returns-8 : tie.Need-returns-8
-unfolding syntaxAt
-returns-8 c =
-    let r = c .match .rest in
-    simp (
-      ne-eqb _ _ (r .0 .0 .0 .0 .0 .0 .1),
-      ne-eqb _ _ (r .0 .0 .0 .0 .0 .1),
-      ne-eqb _ _ (r .0 .0 .0 .0 .1),
-      ne-eqb _ _ (r .0 .0 .0 .1),
-      ne-eqb _ _ (r .0 .0 .1),
-      ne-eqb _ _ (r .0 .1),
-    )
+returns-2 c =
+    let at = c .before .before .before .args .at in
+    places.last at (places.not-listed at (sym (c .enum-told .given .1) ∙ c .before .before .listed-at .ensures))
 
 pub syntax-at-spec : {M : Type 1} → statement M
 syntax-at-spec =
-    tie.close (tie.spec returns returns-2 returns-3 returns-4 returns-5 returns-6 returns-7 returns-8)
+    tie.close (tie.spec listed-at-requires enum-known-syntax enum-told returns returns-2)
