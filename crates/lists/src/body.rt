@@ -20,16 +20,12 @@ pub fn drawn(len: usize, seed: u64) -> Body {
     }
 }
 
-// The octets of a part, and none where it is not there.
-pub fn part(octets: &[u8], start: usize, len: usize) -> &[u8] {
-    if octets.len() < start {
+// The first octets, and none where there are fewer.
+pub fn front(octets: &[u8], size: usize) -> &[u8] {
+    if octets.len() < size {
         return &octets[..0];
     }
-    if octets.len() - start < len {
-        return &octets[..0];
-    }
-    let end = start + len;
-    &octets[start..end]
+    &octets[0..size]
 }
 
 // The octets from a place on.
@@ -55,20 +51,18 @@ pub fn fill(room: &mut [u8], body: Body) {
     }
 }
 
+// Room with the octets of a body at its start.
+pub fn filled(body: Body) -> [u8; 1600] {
+    let mut room = [0u8; 1600];
+    fill(&mut room, body);
+    room
+}
+
 // Whether octets are those of a body.
 pub fn same(octets: &[u8], body: Body) -> bool {
     if octets.len() != body.len {
         return false;
     }
-    let mut state = body.seed;
-    let mut octet = body.first;
-    let mut i: usize = 0;
-    while i < octets.len() {
-        if octets[i] != octet {
-            return false;
-        }
-        octet = crate::draws::octet(&mut state) & body.mask;
-        i += 1;
-    }
-    true
+    let room = filled(body);
+    octets::text::starts(octets, front(&room, body.len))
 }

@@ -1,9 +1,8 @@
 // A payload, read and compared with the content that was given: only a level above zero and the code of an off window may come
 // back different, as 0 (demand 2).
 use crate::body;
-use crate::body::Body;
 use crate::contents;
-use crate::list::Given;
+use crate::contents::Seizure;
 use data::DataRead;
 use digits::layout::Digits;
 use digits::layout::DigitsRead;
@@ -11,61 +10,42 @@ use digits::layout::Window;
 use fax::Command;
 use fax::FaxRead;
 use fax::Stamp;
-use payload::layout::Kind;
 use record::syntax::Record;
-use record::syntax::Syntax;
+use signalling::layout::Signalling;
 use sid::Sid;
 use sid::SidRead;
 use voice::VoiceRead;
 
-pub fn same_speech(rec: Record, payload: &[u8], given: Given) -> bool {
-    let kind = given.kind;
-    let Kind::AVoice = kind else {
-        return false;
-    };
-    let due = given.rec;
-    let speech = contents::draw_speech(due, given.seed);
+pub fn same_speech(payload: &[u8], rec: Record, seed: u64) -> bool {
+    let due = contents::draw_speech(rec, seed);
     match voice::read_voice(rec, payload) {
         VoiceRead::Voice {
             sequence,
             coding,
             front,
         } => {
-            if sequence.0 != speech.sequence.0 {
+            if sequence.0 != due.sequence.0 || coding != due.coding {
                 return false;
             }
-            if coding != speech.coding {
-                return false;
-            }
-            let octets = speech.body;
+            let octets = due.body;
             body::same(body::rest(payload, front), octets)
         }
         VoiceRead::BadVoice(_) => false,
     }
 }
 
-pub fn same_fragment(payload: &[u8], given: Given) -> bool {
-    let kind = given.kind;
-    let Kind::AData = kind else {
-        return false;
-    };
-    let fragment = contents::draw_fragment(given.len, given.seed);
+pub fn same_fragment(payload: &[u8], len: usize, seed: u64) -> bool {
+    let due = contents::draw_fragment(len, seed);
     match data::read_data(payload) {
         DataRead::Fragment {
             begins,
             ends,
             sequence,
         } => {
-            if begins != fragment.begins {
+            if begins != due.begins || ends != due.ends || sequence.0 != due.sequence.0 {
                 return false;
             }
-            if ends != fragment.ends {
-                return false;
-            }
-            if sequence.0 != fragment.sequence.0 {
-                return false;
-            }
-            let octets = fragment.body;
+            let octets = due.body;
             body::same(body::rest(payload, 2), octets)
         }
         DataRead::BadData(_) => false,
@@ -99,12 +79,16 @@ fn command_number(command: Command) -> u64 {
     }
 }
 
-pub fn same_relay(payload: &[u8], given: Given) -> bool {
-    let kind = given.kind;
-    let Kind::AFax = kind else {
-        return false;
-    };
-    let relay = contents::draw_relay(given.seed);
+fn same_stamp(read: Stamp, given: Stamp) -> bool {
+    stamp_number(read) == stamp_number(given)
+}
+
+fn same_command(read: Command, given: Command) -> bool {
+    command_number(read) == command_number(given)
+}
+
+pub fn same_relay(payload: &[u8], seed: u64) -> bool {
+    let due = contents::draw_relay(seed);
     match fax::read_fax(payload) {
         FaxRead::Fax {
             sequence,
@@ -112,18 +96,15 @@ pub fn same_relay(payload: &[u8], given: Given) -> bool {
             command,
             front,
         } => {
-            if sequence != relay.sequence {
+            let due_stamp = due.stamp;
+            let due_command = due.command;
+            if sequence != due.sequence
+                || !same_stamp(stamp, due_stamp)
+                || !same_command(command, due_command)
+            {
                 return false;
             }
-            let due_stamp = relay.stamp;
-            if stamp_number(stamp) != stamp_number(due_stamp) {
-                return false;
-            }
-            let due_command = relay.command;
-            if command_number(command) != command_number(due_command) {
-                return false;
-            }
-            let octets = relay.body;
+            let octets = due.body;
             body::same(body::rest(payload, front), octets)
         }
         FaxRead::BadFax(_) => false,
@@ -132,10 +113,7 @@ pub fn same_relay(payload: &[u8], given: Given) -> bool {
 
 // A window as it comes back: the code of an off window is 0.
 fn same_window(read: Window, given: Window) -> bool {
-    if read.on != given.on {
-        return false;
-    }
-    if read.edge != given.edge {
+    if read.on != given.on || read.edge != given.edge {
         return false;
     }
     if given.on {
@@ -168,18 +146,11 @@ fn same_level(read: i8, given: i8) -> bool {
     read == given
 }
 
-pub fn same_digits(payload: &[u8], given: Given) -> bool {
-    let kind = given.kind;
-    let Kind::ADigits = kind else {
-        return false;
-    };
-    let due = contents::draw_digits(given.seed);
+pub fn same_digits(payload: &[u8], seed: u64) -> bool {
+    let due = contents::draw_digits(seed);
     match digits::layout::read_digits(payload) {
         DigitsRead::Dialled(read) => {
-            if read.sequence.0 != due.sequence.0 {
-                return false;
-            }
-            if !same_level(read.level, due.level) {
+            if read.sequence.0 != due.sequence.0 || !same_level(read.level, due.level) {
                 return false;
             }
             same_windows(read, due)
@@ -188,30 +159,22 @@ pub fn same_digits(payload: &[u8], given: Given) -> bool {
     }
 }
 
-fn same_samples(samples: &[u8; 30], octets: Body) -> bool {
-    body::same(samples, octets)
-}
-
-pub fn same_seizure(payload: &[u8], given: Given) -> bool {
-    let kind = given.kind;
-    let Kind::ASignalling = kind else {
-        return false;
-    };
-    let due = contents::draw_seizure(given.seed);
+pub fn same_seizure(payload: &[u8], seed: u64) -> bool {
     let told = signalling::layout::read_signalling(payload);
     if told.number != 0 {
         return false;
     }
     let read = told.signalling;
-    if read.alarm != due.alarm {
-        return false;
-    }
-    if read.sequence.0 != due.sequence.0 {
+    same_signalling(read, contents::draw_seizure(seed))
+}
+
+fn same_signalling(read: Signalling, due: Seizure) -> bool {
+    if read.alarm != due.alarm || read.sequence.0 != due.sequence.0 {
         return false;
     }
     let samples = read.samples;
     let octets = due.samples;
-    same_samples(&samples, octets)
+    body::same(&samples, octets)
 }
 
 fn same_noise(read: Sid, given: Sid) -> bool {
@@ -235,14 +198,9 @@ fn same_noise(read: Sid, given: Sid) -> bool {
     }
 }
 
-pub fn same_silence(syntax: Syntax, payload: &[u8], given: Given) -> bool {
-    let kind = given.kind;
-    let Kind::ASid = kind else {
-        return false;
-    };
-    let rec = given.rec;
-    let own = rec.syntax;
-    let due = contents::draw_silence(own, given.seed);
+pub fn same_silence(payload: &[u8], rec: Record, seed: u64) -> bool {
+    let syntax = rec.syntax;
+    let due = contents::draw_silence(syntax, seed);
     match sid::read_sid(syntax, payload) {
         SidRead::Silence(read) => same_noise(read, due),
         SidRead::BadSid(_) => false,

@@ -34,7 +34,6 @@ pub struct List {
 // A sub-frame that is given: `len` is looked at where it is a data fragment.
 pub struct Given {
     pub cid: u8,
-    pub rec: Record,
     pub kind: Kind,
     pub len: usize,
     pub seed: u64,
@@ -84,25 +83,30 @@ fn short_kind(state: &mut u64) -> Kind {
     }
 }
 
+// The type that a sub-channel has for a kind, and 16 where it takes none.
+pub fn type_on(table: &[u16; 256], cid: u8, kind: Kind) -> u8 {
+    match payload::layout::type_for(record::table::record_of(table, cid), kind) {
+        TypeFor::Typed(ptype) => ptype,
+        TypeFor::NoType(_) => 16,
+    }
+}
+
 // The first CID from this one on, round 255, that takes the kind.
 fn taking(table: &[u16; 256], from: u8, kind: Kind) -> u8 {
     let mut cid = from;
     let mut left: usize = 256;
     while 0 < left {
-        match payload::layout::type_for(record::table::record_of(table, cid), kind) {
-            TypeFor::Typed(_) => {
-                return cid;
-            }
-            TypeFor::NoType(_) => {
-                cid = std::num::wrapping_add_u8(cid, 1);
-            }
+        if type_on(table, cid, kind) < 16 {
+            return cid;
         }
+        cid = std::num::wrapping_add_u8(cid, 1);
         left -= 1;
     }
     cid
 }
 
-fn record_on(table: &[u16; 256], cid: u8) -> Record {
+// The record of a sub-channel that is provisioned.
+pub fn record_on(table: &[u16; 256], cid: u8) -> Record {
     match record::table::record_of(table, cid) {
         Found::Provisioned(rec) => rec,
         Found::Unprovisioned => Record {
@@ -145,13 +149,11 @@ fn ends(left: usize, at: usize, size: usize) -> bool {
 // A data fragment from this place to the end of the frame; its header and its own first two octets stand in front.
 fn filling(table: &[u16; 256], at: usize, seed: u64) -> Given {
     let mut state = seed;
-    let kind = Kind::AData;
-    let cid = taking(table, draws::octet(&mut state), kind);
+    let cid = taking(table, draws::octet(&mut state), Kind::AData);
     let front: usize = if cid < 64 { 3 } else { 4 };
     Given {
         cid,
-        rec: record_on(table, cid),
-        kind,
+        kind: Kind::AData,
         len: less(less(MOST_OCTETS, at), front),
         seed: state,
         last: true,
@@ -162,36 +164,28 @@ fn drawn_at(table: &[u16; 256], kind: Kind, left: usize, at: usize, seed: u64) -
     let mut state = seed;
     let cid = taking(table, draws::octet(&mut state), kind);
     let len = (draws::number(&mut state) % 300 + 1) as usize;
-    let rec = record_on(table, cid);
+    let size = size(record_on(table, cid), kind, len, state);
     Given {
         cid,
-        rec,
         kind,
         len,
         seed: state,
-        last: ends(left, at, size(rec, kind, len, state)),
+        last: ends(left, at, size),
     }
 }
 
 // The sub-frame at a place of the frame, the list having `left` more with it.
 pub fn given_at(table: &[u16; 256], shape: Shape, left: usize, at: usize, seed: u64) -> Given {
     let mut state = seed;
-    match shape {
-        Shape::Short => {
-            let kind = any_kind(&mut state);
-            drawn_at(table, kind, left, at, state)
-        }
-        Shape::Many => {
-            let kind = short_kind(&mut state);
-            drawn_at(table, kind, left, at, state)
-        }
-        Shape::Filled => {
-            let kind = any_kind(&mut state);
-            let given = drawn_at(table, kind, left, at, state);
-            if given.last {
-                return filling(table, at, state);
-            }
-            given
+    let kind = match shape {
+        Shape::Many => short_kind(&mut state),
+        _ => any_kind(&mut state),
+    };
+    let given = drawn_at(table, kind, left, at, state);
+    if given.last {
+        if let Shape::Filled = shape {
+            return filling(table, at, state);
         }
     }
+    given
 }

@@ -41,7 +41,7 @@ fn provision(table: &mut [u16; 256]) {
 fn one(table: &[u16; 256], list: list::List) {
     let mut room = [0u8; 1600];
     let written = writes::write_list(&mut room, table, list);
-    let frame = body::part(&room, 0, written);
+    let frame = body::front(&room, written);
     console::print::octets(b"frame=", frame);
     let differs = reads::first_differing(frame, table, list);
     if 0 < differs {

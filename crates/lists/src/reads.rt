@@ -3,27 +3,36 @@ use crate::compare;
 use crate::list::Given;
 use crate::list::List;
 use header::SubFrame;
-use payload::layout::Layout;
+use payload::layout::Kind;
 use reader::Found;
+use record::syntax::Record;
 
 // Whether a sub-frame of the frame tells what was given.
 fn same(frame: &[u8], table: &[u16; 256], sub: SubFrame, given: Given) -> bool {
-    if sub.cid != given.cid {
+    if sub.cid != given.cid || sub.last != given.last {
         return false;
     }
-    if sub.last != given.last {
+    let kind = given.kind;
+    if sub.ptype != crate::list::type_on(table, sub.cid, kind) {
         return false;
     }
-    let payload = reader::part(frame, sub);
-    let found = record::table::record_of(table, sub.cid);
-    match payload::layout::layout_of(found, sub.ptype) {
-        Layout::OfVoice(rec) => compare::same_speech(rec, payload, given),
-        Layout::OfDigits => compare::same_digits(payload, given),
-        Layout::OfSignalling => compare::same_seizure(payload, given),
-        Layout::OfFax => compare::same_relay(payload, given),
-        Layout::OfSid(syntax) => compare::same_silence(syntax, payload, given),
-        Layout::OfData => compare::same_fragment(payload, given),
-        Layout::NoLayout(_) => false,
+    same_content(
+        reader::part(frame, sub),
+        crate::list::record_on(table, sub.cid),
+        given,
+    )
+}
+
+// Whether a payload of the kind that was given tells the content.
+fn same_content(payload: &[u8], rec: Record, given: Given) -> bool {
+    let kind = given.kind;
+    match kind {
+        Kind::AVoice => compare::same_speech(payload, rec, given.seed),
+        Kind::ADigits => compare::same_digits(payload, given.seed),
+        Kind::ASignalling => compare::same_seizure(payload, given.seed),
+        Kind::AFax => compare::same_relay(payload, given.seed),
+        Kind::ASid => compare::same_silence(payload, rec, given.seed),
+        Kind::AData => compare::same_fragment(payload, given.len, given.seed),
     }
 }
 

@@ -1,6 +1,7 @@
 // Lists, written into a lent frame one sub-frame at a time.
 use crate::body;
 use crate::contents;
+use crate::contents::Seizure;
 use crate::list::Given;
 use crate::list::List;
 use payload::layout::Kind;
@@ -8,6 +9,91 @@ use place::Writer;
 use signalling::layout::Signalling;
 use writer::primary::Primary;
 use writer::signalled::Signalled;
+
+fn write_speech(frame: &mut [u8], writer: Writer, table: &[u16; 256], given: Given) -> Primary {
+    let rec = crate::list::record_on(table, given.cid);
+    let speech = contents::draw_speech(rec, given.seed);
+    let sequence = speech.sequence;
+    let octets = speech.body;
+    let room = body::filled(octets);
+    writer::primary::write_voice(
+        frame,
+        writer,
+        given.last,
+        table,
+        given.cid,
+        sequence,
+        speech.coding,
+        body::front(&room, octets.len),
+    )
+}
+
+fn write_fragment(frame: &mut [u8], writer: Writer, table: &[u16; 256], given: Given) -> Primary {
+    let fragment = contents::draw_fragment(given.len, given.seed);
+    let sequence = fragment.sequence;
+    let octets = fragment.body;
+    let room = body::filled(octets);
+    writer::primary::write_data(
+        frame,
+        writer,
+        given.last,
+        table,
+        given.cid,
+        fragment.begins,
+        fragment.ends,
+        sequence,
+        body::front(&room, octets.len),
+    )
+}
+
+fn write_relay(frame: &mut [u8], writer: Writer, table: &[u16; 256], given: Given) -> Signalled {
+    let relay = contents::draw_relay(given.seed);
+    let stamp = relay.stamp;
+    let command = relay.command;
+    let octets = relay.body;
+    let room = body::filled(octets);
+    writer::signalled::write_fax(
+        frame,
+        writer,
+        given.last,
+        table,
+        given.cid,
+        relay.sequence,
+        stamp,
+        command,
+        body::front(&room, octets.len),
+    )
+}
+
+fn write_digits(frame: &mut [u8], writer: Writer, table: &[u16; 256], given: Given) -> Signalled {
+    let digits = contents::draw_digits(given.seed);
+    writer::signalled::write_digits(frame, writer, given.last, table, given.cid, digits)
+}
+
+// The content of a seizure, its samples filled in.
+fn signalling_of(seizure: Seizure) -> Signalling {
+    let sequence = seizure.sequence;
+    let octets = seizure.samples;
+    let mut samples = [0u8; 30];
+    body::fill(&mut samples, octets);
+    Signalling {
+        alarm: seizure.alarm,
+        sequence,
+        samples,
+    }
+}
+
+fn write_seizure(frame: &mut [u8], writer: Writer, table: &[u16; 256], given: Given) -> Signalled {
+    let signalling = signalling_of(contents::draw_seizure(given.seed));
+    writer::signalled::write_signalling(frame, writer, given.last, table, given.cid, signalling)
+}
+
+fn write_silence(frame: &mut [u8], writer: Writer, table: &[u16; 256], given: Given) -> Signalled {
+    let rec = crate::list::record_on(table, given.cid);
+    let syntax = rec.syntax;
+    let sid = contents::draw_silence(syntax, given.seed);
+    writer::signalled::write_sid(frame, writer, given.last, table, given.cid, sid)
+}
 
 // A refused sub-frame leaves the writer where it was: the frame then does not read back.
 fn after_primary(writer: Writer, answer: Primary) -> Writer {
@@ -24,118 +110,23 @@ fn after_signalled(writer: Writer, answer: Signalled) -> Writer {
     }
 }
 
-fn write_speech(frame: &mut [u8], writer: Writer, table: &[u16; 256], given: Given) -> Writer {
-    let rec = given.rec;
-    let speech = contents::draw_speech(rec, given.seed);
-    let octets = speech.body;
-    let sequence = speech.sequence;
-    let mut room = [0u8; 1600];
-    body::fill(&mut room, octets);
-    let answer = writer::primary::write_voice(
-        frame,
-        writer,
-        given.last,
-        table,
-        given.cid,
-        sequence,
-        speech.coding,
-        body::part(&room, 0, octets.len),
-    );
-    after_primary(writer, answer)
-}
-
-fn write_fragment(frame: &mut [u8], writer: Writer, table: &[u16; 256], given: Given) -> Writer {
-    let fragment = contents::draw_fragment(given.len, given.seed);
-    let octets = fragment.body;
-    let sequence = fragment.sequence;
-    let mut room = [0u8; 1600];
-    body::fill(&mut room, octets);
-    let answer = writer::primary::write_data(
-        frame,
-        writer,
-        given.last,
-        table,
-        given.cid,
-        fragment.begins,
-        fragment.ends,
-        sequence,
-        body::part(&room, 0, octets.len),
-    );
-    after_primary(writer, answer)
-}
-
-fn write_relay(frame: &mut [u8], writer: Writer, table: &[u16; 256], given: Given) -> Writer {
-    let relay = contents::draw_relay(given.seed);
-    let octets = relay.body;
-    let stamp = relay.stamp;
-    let command = relay.command;
-    let mut room = [0u8; 1600];
-    body::fill(&mut room, octets);
-    let answer = writer::signalled::write_fax(
-        frame,
-        writer,
-        given.last,
-        table,
-        given.cid,
-        relay.sequence,
-        stamp,
-        command,
-        body::part(&room, 0, octets.len),
-    );
-    after_signalled(writer, answer)
-}
-
-fn write_digits(frame: &mut [u8], writer: Writer, table: &[u16; 256], given: Given) -> Writer {
-    let digits = contents::draw_digits(given.seed);
-    let answer = writer::signalled::write_digits(
-        frame,
-        writer,
-        given.last,
-        table,
-        given.cid,
-        digits,
-    );
-    after_signalled(writer, answer)
-}
-
-fn write_signalling(frame: &mut [u8], writer: Writer, table: &[u16; 256], given: Given) -> Writer {
-    let seizure = contents::draw_seizure(given.seed);
-    let octets = seizure.samples;
-    let sequence = seizure.sequence;
-    let mut samples = [0u8; 30];
-    body::fill(&mut samples, octets);
-    let answer = writer::signalled::write_signalling(
-        frame,
-        writer,
-        given.last,
-        table,
-        given.cid,
-        Signalling {
-            alarm: seizure.alarm,
-            sequence,
-            samples,
-        },
-    );
-    after_signalled(writer, answer)
-}
-
-fn write_sid(frame: &mut [u8], writer: Writer, table: &[u16; 256], given: Given) -> Writer {
-    let rec = given.rec;
-    let syntax = rec.syntax;
-    let sid = contents::draw_silence(syntax, given.seed);
-    let answer = writer::signalled::write_sid(frame, writer, given.last, table, given.cid, sid);
-    after_signalled(writer, answer)
+// Digits, signalling and silence.
+fn write_short(frame: &mut [u8], writer: Writer, table: &[u16; 256], given: Given) -> Signalled {
+    let kind = given.kind;
+    match kind {
+        Kind::ADigits => write_digits(frame, writer, table, given),
+        Kind::ASignalling => write_seizure(frame, writer, table, given),
+        _ => write_silence(frame, writer, table, given),
+    }
 }
 
 fn write(frame: &mut [u8], writer: Writer, table: &[u16; 256], given: Given) -> Writer {
     let kind = given.kind;
     match kind {
-        Kind::AVoice => write_speech(frame, writer, table, given),
-        Kind::ADigits => write_digits(frame, writer, table, given),
-        Kind::ASignalling => write_signalling(frame, writer, table, given),
-        Kind::AFax => write_relay(frame, writer, table, given),
-        Kind::ASid => write_sid(frame, writer, table, given),
-        Kind::AData => write_fragment(frame, writer, table, given),
+        Kind::AVoice => after_primary(writer, write_speech(frame, writer, table, given)),
+        Kind::AData => after_primary(writer, write_fragment(frame, writer, table, given)),
+        Kind::AFax => after_signalled(writer, write_relay(frame, writer, table, given)),
+        _ => after_signalled(writer, write_short(frame, writer, table, given)),
     }
 }
 

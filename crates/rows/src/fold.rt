@@ -39,6 +39,10 @@ pub fn window(acc: u64, w: Window) -> u64 {
     fold(acc, flag(w.on) * 1024 + w.edge as u64 * 32 + w.code as u64)
 }
 
+pub fn windows(acc: u64, one: Window, two: Window, three: Window) -> u64 {
+    window(window(window(acc, one), two), three)
+}
+
 fn five(acc: u64, a: u8, b: u8, c: u8, d: u8, e: u8) -> u64 {
     fold(
         acc,
@@ -46,12 +50,15 @@ fn five(acc: u64, a: u8, b: u8, c: u8, d: u8, e: u8) -> u64 {
     )
 }
 
+// Five samples from a place on.
+fn five_at(acc: u64, s: &[u8; 30], at: usize) -> u64
+    requires { ⌜ at ≤ 25 ⌝ }
+{
+    five(acc, s[at], s[at + 1], s[at + 2], s[at + 3], s[at + 4])
+}
+
 // Thirty samples, five at a time.
 pub fn samples(acc: u64, s: [u8; 30]) -> u64 {
-    let one = five(acc, s[0], s[1], s[2], s[3], s[4]);
-    let two = five(one, s[5], s[6], s[7], s[8], s[9]);
-    let three = five(two, s[10], s[11], s[12], s[13], s[14]);
-    let four = five(three, s[15], s[16], s[17], s[18], s[19]);
-    let next = five(four, s[20], s[21], s[22], s[23], s[24]);
-    five(next, s[25], s[26], s[27], s[28], s[29])
+    let half = five_at(five_at(five_at(acc, &s, 0), &s, 5), &s, 10);
+    five_at(five_at(five_at(half, &s, 15), &s, 20), &s, 25)
 }

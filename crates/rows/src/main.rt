@@ -7,35 +7,40 @@ mod steps;
 mod texts;
 mod writes;
 
+use crate::items::Place;
+
 // What stands before the provisioning text: the row, how many times, and how long the text is.
 const FRONT: usize = 7;
 
 fn main() {
     let mut input = io::large_buffer();
-    let mut table = [0u16; 256];
-    let mut room = [0u8; 1600];
     let n = io::read_full(libc::STDIN_FILENO, &mut input);
-    let low = items::size(&input, 1) as u64;
-    let high = items::size(&input, 3) as u64;
-    let size = items::size(&input, 5);
-    provisioning::text::read_text(items::part(&input, FRONT, size), &mut table);
-    let works = high * 65536 + low;
-    let first = FRONT + size;
-    let acc = match input[0] {
-        b'd' => steps::send_digits(&input[..n], works, first),
-        b'e' => steps::receive_digits(&input[..n], works, first),
-        b's' => steps::send_signalling(&input[..n], works, first),
-        b't' => steps::receive_signalling(&input[..n], works, first),
-        b'n' => items::walk(&input[..n], works, first),
-        b'c' => reads::check_each(&mut input[..n], works, first),
-        b'r' => reads::read_each(&mut input[..n], works, first, &table),
-        b'h' => reads::hand_each(&mut input[..n], works, first, &table),
-        b'w' => writes::write_each(&mut input[..n], works, first, &table, &mut room, false),
-        b'W' => writes::write_each(&mut input[..n], works, first, &table, &mut room, true),
-        b'p' => texts::read_each(&input[..n], works, first, &mut table, false),
-        b'P' => texts::read_each(&input[..n], works, first, &mut table, true),
-        _ => fold::FIRST,
-    };
+    let acc = work(&mut input[..n]);
     io::print_decimal(libc::STDOUT_FILENO, acc);
     io::write_all(libc::STDOUT_FILENO, b"\n");
+}
+
+// The text is read into the table; the items stand behind it.
+fn work(input: &mut [u8]) -> u64 {
+    let size = items::size(input, 5);
+    let mut table = [0u16; 256];
+    provisioning::text::read_text(items::part(input, FRONT, size), &mut table);
+    let row = octets::octet(input, 0);
+    let begin = items::begin(FRONT + size, works(input));
+    work_of(row, input, begin, &mut table)
+}
+
+// How many times: four octets, the low one first.
+fn works(input: &[u8]) -> u64 {
+    items::pair(input, 3) as u64 * 65536 + items::pair(input, 1) as u64
+}
+
+// The work of a row, by its letter.
+fn work_of(row: u8, items: &mut [u8], begin: Place, table: &mut [u16; 256]) -> u64 {
+    match row {
+        b'c' | b'r' | b'h' => reads::work_of(row, items, begin, table),
+        b'w' | b'W' => writes::write_each(items, begin, table, &mut [0u8; 1600], row == b'W'),
+        b'p' | b'P' => texts::read_each(items, begin, table, row == b'P'),
+        _ => steps::work_of(row, items, begin),
+    }
 }

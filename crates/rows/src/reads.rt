@@ -2,6 +2,7 @@
 use crate::fold::fold;
 use crate::fold::level;
 use crate::fold::octet;
+use crate::items::Place;
 use data::DataRead;
 use digits::layout::DigitsRead;
 use fax::Command;
@@ -61,9 +62,13 @@ fn read_sub(acc: u64, frame: &[u8], table: &[u16; 256], sub: SubFrame) -> u64
     let at = octet(octet(acc, sub.cid), sub.ptype);
     let start = sub.start;
     let end = start + sub.len;
-    let payload = &frame[start..end];
     let found = record::table::record_of(table, sub.cid);
-    match payload::layout::layout_of(found, sub.ptype) {
+    let layout = payload::layout::layout_of(found, sub.ptype);
+    read_payload(at, layout, &frame[start..end])
+}
+
+fn read_payload(at: u64, layout: Layout, payload: &[u8]) -> u64 {
+    match layout {
         Layout::OfVoice(rec) => read_voice(at, rec, payload),
         Layout::OfDigits => read_digits(at, payload),
         Layout::OfSignalling => read_signalling(at, payload),
@@ -165,38 +170,47 @@ fn read_data(acc: u64, payload: &[u8]) -> u64 {
 }
 
 // The check of each item.
-pub fn check_each(input: &mut [u8], works: u64, first: usize) -> u64 {
+fn check_each(items: &mut [u8], begin: Place) -> u64 {
     let mut acc = crate::fold::FIRST;
-    let mut walk = crate::items::begin(works, first);
+    let mut walk = begin;
     while 0 < walk.left {
-        walk = crate::items::next(input, walk, first);
-        crate::items::touch(input, walk, acc);
-        acc = check(acc, crate::items::octets_of(input, walk));
+        walk = crate::items::next(items, walk);
+        crate::items::touch(items, walk, acc);
+        acc = check(acc, crate::items::octets_of(items, walk));
     }
     acc
 }
 
 // Each item opened and read.
-pub fn read_each(input: &mut [u8], works: u64, first: usize, table: &[u16; 256]) -> u64 {
+fn read_each(items: &mut [u8], begin: Place, table: &[u16; 256]) -> u64 {
     let mut acc = crate::fold::FIRST;
-    let mut walk = crate::items::begin(works, first);
+    let mut walk = begin;
     while 0 < walk.left {
-        walk = crate::items::next(input, walk, first);
-        crate::items::touch(input, walk, acc);
-        acc = read(acc, crate::items::octets_of(input, walk), table);
+        walk = crate::items::next(items, walk);
+        crate::items::touch(items, walk, acc);
+        acc = read(acc, crate::items::octets_of(items, walk), table);
     }
     acc
 }
 
 // What the card is handed of each item.
-pub fn hand_each(input: &mut [u8], works: u64, first: usize, table: &[u16; 256]) -> u64 {
+fn hand_each(items: &mut [u8], begin: Place, table: &[u16; 256]) -> u64 {
     let silence = [85u8; 20];
     let mut acc = crate::fold::FIRST;
-    let mut walk = crate::items::begin(works, first);
+    let mut walk = begin;
     while 0 < walk.left {
-        walk = crate::items::next(input, walk, first);
-        crate::items::touch(input, walk, acc);
-        acc = hand(acc, crate::items::octets_of(input, walk), &silence, table);
+        walk = crate::items::next(items, walk);
+        crate::items::touch(items, walk, acc);
+        acc = hand(acc, crate::items::octets_of(items, walk), &silence, table);
     }
     acc
+}
+
+// The work of a row, by its letter.
+pub fn work_of(row: u8, items: &mut [u8], begin: Place, table: &[u16; 256]) -> u64 {
+    match row {
+        b'c' => check_each(items, begin),
+        b'r' => read_each(items, begin, table),
+        _ => hand_each(items, begin, table),
+    }
 }

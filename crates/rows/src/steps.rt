@@ -3,6 +3,8 @@ use crate::fold::flag;
 use crate::fold::fold;
 use crate::fold::octet;
 use crate::fold::window;
+use crate::fold::windows;
+use crate::items::Place;
 use dialling::Sending;
 use digits::layout::Digits;
 use seizing::Sent;
@@ -15,7 +17,7 @@ pub fn digits(acc: u64, digits: Digits) -> u64 {
     let recent = digits.recent;
     let previous = digits.previous;
     let front = crate::fold::level(octet(acc, digits.sequence.0), digits.level);
-    window(window(window(front, current), recent), previous)
+    windows(front, current, recent, previous)
 }
 
 pub fn signalling(acc: u64, signalling: Signalling) -> u64 {
@@ -58,7 +60,7 @@ fn received(acc: u64, received: dialled::Received) -> u64 {
     let periods = received.periods;
     let said = octet(octet(acc, received.number), received.fills);
     let filled = octet(window(said, fill), received.carried);
-    window(window(window(filled, periods[0]), periods[1]), periods[2])
+    windows(filled, periods[0], periods[1], periods[2])
 }
 
 // The entry of eleven octets.
@@ -92,13 +94,13 @@ fn seized(acc: u64, received: seized::Received) -> u64 {
 }
 
 // The items as entries to one digit sender.
-pub fn send_digits(input: &[u8], works: u64, first: usize) -> u64 {
+fn send_digits(items: &[u8], begin: Place) -> u64 {
     let mut sender = dialling::fresh();
     let mut acc = crate::fold::FIRST;
-    let mut walk = crate::items::begin(works, first);
+    let mut walk = begin;
     while 0 < walk.left {
-        walk = crate::items::next(input, walk, first);
-        let octets = crate::items::octets_of(input, walk);
+        walk = crate::items::next(items, walk);
+        let octets = crate::items::octets_of(items, walk);
         let taken = dialling::send(sender, digit_entry(octets));
         sender = taken.sender;
         let answer = taken.answer;
@@ -108,13 +110,13 @@ pub fn send_digits(input: &[u8], works: u64, first: usize) -> u64 {
 }
 
 // The items as payloads to one digit receiver.
-pub fn receive_digits(input: &[u8], works: u64, first: usize) -> u64 {
+fn receive_digits(items: &[u8], begin: Place) -> u64 {
     let mut receiver = dialled::fresh();
     let mut acc = crate::fold::FIRST;
-    let mut walk = crate::items::begin(works, first);
+    let mut walk = begin;
     while 0 < walk.left {
-        walk = crate::items::next(input, walk, first);
-        let octets = crate::items::octets_of(input, walk);
+        walk = crate::items::next(items, walk);
+        let octets = crate::items::octets_of(items, walk);
         let answer = dialled::receive(receiver, octets);
         receiver = answer.receiver;
         acc = received(acc, answer);
@@ -123,14 +125,14 @@ pub fn receive_digits(input: &[u8], works: u64, first: usize) -> u64 {
 }
 
 // The items as entries to one signalling sender.
-pub fn send_signalling(input: &[u8], works: u64, first: usize) -> u64 {
+fn send_signalling(items: &[u8], begin: Place) -> u64 {
     let started = seizing::start(0);
     let mut sender = started.sender;
     let mut acc = crate::fold::FIRST;
-    let mut walk = crate::items::begin(works, first);
+    let mut walk = begin;
     while 0 < walk.left {
-        walk = crate::items::next(input, walk, first);
-        let octets = crate::items::octets_of(input, walk);
+        walk = crate::items::next(items, walk);
+        let octets = crate::items::octets_of(items, walk);
         let answer = seizing::send(sender, signalling_entry(octets));
         sender = answer.sender;
         acc = sent(acc, answer);
@@ -139,16 +141,28 @@ pub fn send_signalling(input: &[u8], works: u64, first: usize) -> u64 {
 }
 
 // The items as payloads to one signalling receiver.
-pub fn receive_signalling(input: &[u8], works: u64, first: usize) -> u64 {
+fn receive_signalling(items: &[u8], begin: Place) -> u64 {
     let mut receiver = seized::fresh();
     let mut acc = crate::fold::FIRST;
-    let mut walk = crate::items::begin(works, first);
+    let mut walk = begin;
     while 0 < walk.left {
-        walk = crate::items::next(input, walk, first);
-        let octets = crate::items::octets_of(input, walk);
+        walk = crate::items::next(items, walk);
+        let octets = crate::items::octets_of(items, walk);
         let answer = seized::receive(receiver, octets);
         receiver = answer.receiver;
         acc = seized(acc, answer);
     }
     acc
+}
+
+// The work of a row, by its letter; `n` is the walk over the items alone.
+pub fn work_of(row: u8, items: &[u8], begin: Place) -> u64 {
+    match row {
+        b'd' => send_digits(items, begin),
+        b'e' => receive_digits(items, begin),
+        b's' => send_signalling(items, begin),
+        b't' => receive_signalling(items, begin),
+        b'n' => crate::items::walk(items, begin),
+        _ => crate::fold::FIRST,
+    }
 }

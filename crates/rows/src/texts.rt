@@ -1,11 +1,9 @@
 // Provisioning texts read into the table.
-use crate::fold::flag;
 use crate::fold::fold;
 use crate::fold::octet;
+use crate::items::Place;
 use provisioning::text::TextAnswer;
-use record::syntax::Syntax;
 use record::table::Found;
-ghost use Prim.Native.Nat.{_≤_};
 
 // A text read; of the table two places, or all, are folded.
 fn read(acc: u64, text: &[u8], table: &mut [u16; 256], all: bool) -> u64 {
@@ -23,28 +21,16 @@ fn answer(acc: u64, answer: TextAnswer) -> u64 {
     }
 }
 
+// The record on a CID as one number, 1 for the least, and 0 for none.
 fn place(acc: u64, table: &[u16; 256], cid: u8) -> u64 {
     match record::table::record_of(table, cid) {
         Found::Provisioned(rec) => {
-            let syntax = rec.syntax;
-            fold(acc, word(syntax) + rec.m as u64 * 2 + flag(rec.seq))
+            fold(
+                acc,
+                std::num::wrapping_sub_u16(record::table::pack(rec), 31) as u64,
+            )
         }
         Found::Unprovisioned => fold(acc, 0),
-    }
-}
-
-// The place of a syntax in document 01's list, from 0, above the bits of m and seq; 1 more, so that it is not 0.
-fn word(syntax: Syntax) -> u64
-    ensures { λ r. ⌜ r ≤ 193 ⌝ }
-{
-    match syntax {
-        Syntax::Acelp => 1,
-        Syntax::Pcm => 33,
-        Syntax::G727 => 65,
-        Syntax::G728 => 97,
-        Syntax::G7231 => 129,
-        Syntax::Data => 161,
-        Syntax::Fax => 193,
     }
 }
 
@@ -59,12 +45,12 @@ fn places(acc: u64, table: &[u16; 256]) -> u64 {
 }
 
 // Each item read.
-pub fn read_each(input: &[u8], works: u64, first: usize, table: &mut [u16; 256], all: bool) -> u64 {
+pub fn read_each(items: &[u8], begin: Place, table: &mut [u16; 256], all: bool) -> u64 {
     let mut acc = crate::fold::FIRST;
-    let mut walk = crate::items::begin(works, first);
+    let mut walk = begin;
     while 0 < walk.left {
-        walk = crate::items::next(input, walk, first);
-        acc = read(acc, crate::items::octets_of(input, walk), table, all);
+        walk = crate::items::next(items, walk);
+        acc = read(acc, crate::items::octets_of(items, walk), table, all);
     }
     acc
 }

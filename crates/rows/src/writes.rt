@@ -1,7 +1,9 @@
 // A mixed frame written, from the octets of an item.
 use crate::fold::fold;
 use crate::fold::octet;
-use crate::items::wide;
+use crate::items::Place;
+use crate::items::pair;
+use crate::items::part;
 use counts::DataCount;
 use counts::DigitCount;
 use counts::SignallingCount;
@@ -15,8 +17,6 @@ use sid::Sid;
 use signalling::layout::Signalling;
 use writer::primary::Primary;
 use writer::signalled::Signalled;
-ghost use Prim.Native.Nat.{_<_};
-ghost use mathlib.Core.Path.{_≡_};
 
 // The place of the first octet of the material that passes through.
 const BODY: usize = 64;
@@ -30,22 +30,6 @@ fn octets(acc: u64, room: &[u8]) -> u64 {
         i += 1;
     }
     folded
-}
-
-fn wider(octet: u8) -> u16
-    ensures { λ r. ⌜ (r ≡ octet) × (r < 256) ⌝ }
-{
-    octet as u16
-}
-
-// A number of two octets, the low one first.
-fn pair(m: &[u8], at: usize) -> u16 {
-    let low = wider(octets::octet(m, at));
-    if at < m.len() {
-        let high = wider(octets::octet(m, at + 1));
-        return low + high * 256;
-    }
-    low
 }
 
 // The last octet of a frame that ends at a place.
@@ -69,109 +53,101 @@ fn write_voice(acc: u64, frame: &mut [u8], m: &[u8], table: &[u16; 256]) -> u64 
     if m.len() != 325 {
         return acc;
     }
-    let writer = place::fresh();
     let answer = writer::primary::write_voice(
         frame,
-        writer,
+        place::fresh(),
         false,
         table,
         octets::octet(m, 2),
         VoiceCount(octets::octet(m, 3)),
         octets::octet(m, 4),
-        crate::items::part(m, 64, wide(octets::octet(m, 5))),
+        body(m, 5),
     );
     match answer {
-        Primary::PrimaryTaken(next) => write_digits(acc, next, frame, m, table),
+        Primary::PrimaryTaken(next) => write_digits(placed(acc, next), next, frame, m, table),
         Primary::PrimaryRefused(number) => octet(acc, number),
     }
 }
 
-fn write_digits(said: u64, writer: Writer, frame: &mut [u8], m: &[u8], table: &[u16; 256]) -> u64 {
-    let acc = fold(said, writer.at as u64);
-    let digits = Digits {
-        sequence: DigitCount(octets::octet(m, 7)),
-        level: crate::steps::level_in(octets::octet(m, 8)),
-        current: Window {
-            on: octets::octet(m, 9) % 2 == 1,
-            edge: octets::octet(m, 10),
-            code: octets::octet(m, 11),
-        },
-        recent: Window {
-            on: octets::octet(m, 12) % 2 == 1,
-            edge: octets::octet(m, 13),
-            code: octets::octet(m, 14),
-        },
-        previous: Window {
-            on: octets::octet(m, 15) % 2 == 1,
-            edge: octets::octet(m, 16),
-            code: octets::octet(m, 17),
-        },
-    };
-    let answer = writer::signalled::write_digits(
-        frame,
-        writer,
-        false,
-        table,
-        octets::octet(m, 6),
-        digits,
-    );
-    match answer {
-        Signalled::SignalledTaken(next) => write_signalling(acc, next, frame, m, table),
+// The place after a sub-frame.
+fn placed(acc: u64, writer: Writer) -> u64 {
+    fold(acc, writer.at as u64)
+}
+
+// As many octets of the material that passes through as the octet at a place says.
+fn body(m: &[u8], at: usize) -> &[u8] {
+    part(m, BODY, octets::wide(octets::octet(m, at)))
+}
+
+fn odd(m: &[u8], at: usize) -> bool {
+    octets::octet(m, at) % 2 == 1
+}
+
+fn write_digits(acc: u64, writer: Writer, frame: &mut [u8], m: &[u8], table: &[u16; 256]) -> u64 {
+    let cid = octets::octet(m, 6);
+    match writer::signalled::write_digits(frame, writer, false, table, cid, digits_in(m)) {
+        Signalled::SignalledTaken(next) => {
+            write_signalling(placed(acc, next), next, frame, m, table)
+        }
         Signalled::SignalledRefused(number) => octet(acc, number),
     }
 }
 
+fn digits_in(m: &[u8]) -> Digits {
+    Digits {
+        sequence: DigitCount(octets::octet(m, 7)),
+        level: crate::steps::level_in(octets::octet(m, 8)),
+        current: window(
+            octets::octet(m, 9),
+            octets::octet(m, 10),
+            octets::octet(m, 11),
+        ),
+        recent: window(
+            octets::octet(m, 12),
+            octets::octet(m, 13),
+            octets::octet(m, 14),
+        ),
+        previous: window(
+            octets::octet(m, 15),
+            octets::octet(m, 16),
+            octets::octet(m, 17),
+        ),
+    }
+}
+
+fn window(on: u8, edge: u8, code: u8) -> Window {
+    Window {
+        on: on % 2 == 1,
+        edge,
+        code,
+    }
+}
+
 fn write_signalling(
-    said: u64,
+    acc: u64,
     writer: Writer,
     frame: &mut [u8],
     m: &[u8],
     table: &[u16; 256],
 ) -> u64 {
-    let acc = fold(said, writer.at as u64);
-    let mut samples = [0u8; 30];
-    octets::put_octets(&mut samples, 0, crate::items::part(m, 21, 30));
-    let signalling = Signalling {
-        alarm: octets::octet(m, 19) % 2 == 1,
-        sequence: SignallingCount(octets::octet(m, 20)),
-        samples,
-    };
-    let answer = writer::signalled::write_signalling(
-        frame,
-        writer,
-        false,
-        table,
-        octets::octet(m, 18),
-        signalling,
-    );
-    match answer {
-        Signalled::SignalledTaken(next) => write_fax(acc, next, frame, m, table),
+    let cid = octets::octet(m, 18);
+    match writer::signalled::write_signalling(frame, writer, false, table, cid, signalling_in(m)) {
+        Signalled::SignalledTaken(next) => write_fax(placed(acc, next), next, frame, m, table),
         Signalled::SignalledRefused(number) => octet(acc, number),
     }
 }
 
-fn command(kind: u8, hdlc: bool, modulation: u8, frequency: u16) -> Command {
-    match kind {
-        0 => Command::Off,
-        1 => Command::On {
-            hdlc,
-            modulation,
-            frequency,
-        },
-        2 => Command::Page,
-        3 => Command::EndOfFrame,
-        _ => Command::Abort,
+fn signalling_in(m: &[u8]) -> Signalling {
+    let mut samples = [0u8; 30];
+    octets::put_octets(&mut samples, 0, part(m, 21, 30));
+    Signalling {
+        alarm: odd(m, 19),
+        sequence: SignallingCount(octets::octet(m, 20)),
+        samples,
     }
 }
 
-fn write_fax(said: u64, writer: Writer, frame: &mut [u8], m: &[u8], table: &[u16; 256]) -> u64 {
-    let acc = fold(said, writer.at as u64);
-    let stamp = if octets::octet(m, 53) % 2 == 0 {
-        Stamp::NoStamp
-    } else {
-        Stamp::Stamped(pair(m, 54))
-    };
-    let frequency = pair(m, 59);
+fn write_fax(acc: u64, writer: Writer, frame: &mut [u8], m: &[u8], table: &[u16; 256]) -> u64 {
     let answer = writer::signalled::write_fax(
         frame,
         writer,
@@ -179,82 +155,96 @@ fn write_fax(said: u64, writer: Writer, frame: &mut [u8], m: &[u8], table: &[u16
         table,
         octets::octet(m, 51),
         octets::octet(m, 52),
-        stamp,
-        command(
-            octets::octet(m, 56) % 5,
-            octets::octet(m, 57) % 2 == 1,
-            octets::octet(m, 58),
-            frequency,
-        ),
-        crate::items::part(m, 64, wide(octets::octet(m, 61))),
+        stamp(m),
+        command(m),
+        body(m, 61),
     );
     match answer {
-        Signalled::SignalledTaken(next) => write_sid(acc, next, frame, m, table),
+        Signalled::SignalledTaken(next) => write_sid(placed(acc, next), next, frame, m, table),
         Signalled::SignalledRefused(number) => octet(acc, number),
     }
 }
 
-fn write_sid(said: u64, writer: Writer, frame: &mut [u8], m: &[u8], table: &[u16; 256]) -> u64 {
-    let acc = fold(said, writer.at as u64);
-    let sid = if octets::octet(m, 63) == 1 {
-        Sid::Plain
-    } else {
-        Sid::Noise {
-            sequence: VoiceCount(octets::octet(m, 3)),
-            level: crate::steps::level_in(octets::octet(m, 63)),
-        }
-    };
-    let answer = writer::signalled::write_sid(
-        frame,
-        writer,
-        false,
-        table,
-        octets::octet(m, 62),
-        sid,
-    );
-    match answer {
-        Signalled::SignalledTaken(next) => write_data(acc, next, frame, m, table),
+fn stamp(m: &[u8]) -> Stamp {
+    if odd(m, 53) {
+        return Stamp::Stamped(pair(m, 54));
+    }
+    Stamp::NoStamp
+}
+
+fn command(m: &[u8]) -> Command {
+    match octets::octet(m, 56) % 5 {
+        0 => Command::Off,
+        1 => Command::On {
+            hdlc: odd(m, 57),
+            modulation: octets::octet(m, 58),
+            frequency: pair(m, 59),
+        },
+        2 => Command::Page,
+        3 => Command::EndOfFrame,
+        _ => Command::Abort,
+    }
+}
+
+fn write_sid(acc: u64, writer: Writer, frame: &mut [u8], m: &[u8], table: &[u16; 256]) -> u64 {
+    let sid = sid_in(octets::octet(m, 3), octets::octet(m, 63));
+    match writer::signalled::write_sid(frame, writer, false, table, octets::octet(m, 62), sid) {
+        Signalled::SignalledTaken(next) => write_data(placed(acc, next), next, frame, m, table),
         Signalled::SignalledRefused(number) => octet(acc, number),
     }
 }
 
-fn write_data(said: u64, writer: Writer, frame: &mut [u8], m: &[u8], table: &[u16; 256]) -> u64 {
-    let acc = fold(said, writer.at as u64);
+fn sid_in(sequence: u8, level: u8) -> Sid {
+    if level == 1 {
+        return Sid::Plain;
+    }
+    Sid::Noise {
+        sequence: VoiceCount(sequence),
+        level: crate::steps::level_in(level),
+    }
+}
+
+fn write_data(acc: u64, writer: Writer, frame: &mut [u8], m: &[u8], table: &[u16; 256]) -> u64 {
     let answer = writer::primary::write_data(
         frame,
         writer,
         true,
         table,
         octets::octet(m, 320),
-        octets::octet(m, 321) % 2 == 1,
+        odd(m, 321),
         octets::octet(m, 321) / 2 % 2 == 1,
         DataCount(pair(m, 322)),
-        crate::items::part(m, 64, wide(octets::octet(m, 324))),
+        body(m, 324),
     );
     match answer {
-        Primary::PrimaryTaken(next) => ended(fold(acc, next.at as u64), frame, next.at),
+        Primary::PrimaryTaken(next) => ended(placed(acc, next), frame, next.at),
         Primary::PrimaryRefused(number) => octet(acc, number),
     }
 }
 
+// With `all`, the whole room.
+fn shown(acc: u64, room: &[u8], all: bool) -> u64 {
+    if all {
+        return octets(acc, room);
+    }
+    acc
+}
+
 // A frame written from each item; with `all`, the whole room is folded too.
 pub fn write_each(
-    input: &mut [u8],
-    works: u64,
-    first: usize,
+    items: &mut [u8],
+    begin: Place,
     table: &[u16; 256],
     room: &mut [u8],
     all: bool,
 ) -> u64 {
     let mut acc = crate::fold::FIRST;
-    let mut walk = crate::items::begin(works, first);
+    let mut walk = begin;
     while 0 < walk.left {
-        walk = crate::items::next(input, walk, first);
-        crate::items::set_in(input, walk, BODY, acc);
-        acc = write(acc, room, crate::items::octets_of(input, walk), table);
-        if all {
-            acc = octets(acc, room);
-        }
+        walk = crate::items::next(items, walk);
+        crate::items::set_in(items, walk, BODY, acc);
+        acc = write(acc, room, crate::items::octets_of(items, walk), table);
+        acc = shown(acc, room, all);
     }
     acc
 }

@@ -13,20 +13,11 @@ abbrev μ-loop : tie.MeasureT-loop
 loop-holds : tie.Need-loop-holds Inv-loop μ-loop
 loop-holds c = search needs
 
-record-of-requires : tie.Need-record-of-requires Inv-loop μ-loop
-record-of-requires c κs = search needs
-
-type-for-requires : tie.Need-type-for-requires Inv-loop μ-loop
-type-for-requires c κs = search needs
-
-enum-told : tie.Need-enum-told Inv-loop μ-loop
-enum-told c = search needs
+type-on-requires : tie.Need-type-on-requires Inv-loop μ-loop
+type-on-requires c κs = search needs
 
 returns : tie.Need-returns Inv-loop μ-loop
 returns c = search needs
-
-enum-told-2 : tie.Need-enum-told-2 Inv-loop μ-loop
-enum-told-2 c = search needs
 
 wrapping-add-u8-requires : tie.Need-wrapping-add-u8-requires Inv-loop μ-loop
 wrapping-add-u8-requires c κs = search needs
@@ -50,11 +41,8 @@ taking-spec =
     Inv-loop
     μ-loop
     loop-holds
-    record-of-requires
-    type-for-requires
-    enum-told
+    type-on-requires
     returns
-    enum-told-2
     wrapping-add-u8-requires
     sub-left
     loop-less

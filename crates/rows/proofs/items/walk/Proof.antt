@@ -4,13 +4,10 @@ use Rattle.rows.proofs.items.walk.Statement.{statement}
 use Rattle.rows.proofs.items.walk.Tie as tie
 
 abbrev Inv-loop : tie.InvT-loop
-Inv-loop input works first acc₀ walk₀ acc walk = Unit {0}
+Inv-loop items acc₀ walk₀ acc walk = Unit {0}
 
 abbrev μ-loop : tie.MeasureT-loop
-μ-loop input works first acc₀ walk₀ acc walk = walk .left
-
-begin-requires : tie.Need-begin-requires Inv-loop μ-loop
-begin-requires c κs = search needs
+μ-loop items acc₀ walk₀ acc walk = walk .left
 
 loop-holds : tie.Need-loop-holds Inv-loop μ-loop
 loop-holds c = search needs
@@ -42,7 +39,6 @@ walk-spec =
     (tie.spec
     Inv-loop
     μ-loop
-    begin-requires
     loop-holds
     next-requires
     octets-of-requires

@@ -6,13 +6,10 @@ use Rattle.rows.proofs.reads.check_each.Statement.{statement}
 use Rattle.rows.proofs.reads.check_each.Tie as tie
 
 abbrev Inv-loop : tie.InvT-loop
-Inv-loop input₀ works first acc₀ walk₀ input acc walk = length input ≡ length input₀
+Inv-loop items₀ acc₀ walk₀ items acc walk = length items ≡ length items₀
 
 abbrev μ-loop : tie.MeasureT-loop
-μ-loop input₀ works first acc₀ walk₀ input acc walk = walk .left
-
-begin-requires : tie.Need-begin-requires Inv-loop μ-loop
-begin-requires c κs = search needs
+μ-loop items₀ acc₀ walk₀ items acc walk = walk .left
 
 loop-holds : tie.Need-loop-holds Inv-loop μ-loop
 loop-holds c = search needs
@@ -47,7 +44,6 @@ check-each-spec =
     (tie.spec
     Inv-loop
     μ-loop
-    begin-requires
     loop-holds
     next-requires
     touch-requires

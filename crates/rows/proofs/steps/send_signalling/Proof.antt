@@ -4,16 +4,13 @@ use Rattle.rows.proofs.steps.send_signalling.Statement.{statement}
 use Rattle.rows.proofs.steps.send_signalling.Tie as tie
 
 abbrev Inv-loop : tie.InvT-loop
-Inv-loop input works first sender₀ acc₀ walk₀ sender acc walk = Unit {0}
+Inv-loop items sender₀ acc₀ walk₀ sender acc walk = Unit {0}
 
 abbrev μ-loop : tie.MeasureT-loop
-μ-loop input works first sender₀ acc₀ walk₀ sender acc walk = walk .left
+μ-loop items sender₀ acc₀ walk₀ sender acc walk = walk .left
 
 start-requires : tie.Need-start-requires Inv-loop μ-loop
 start-requires c κs = search needs
-
-begin-requires : tie.Need-begin-requires Inv-loop μ-loop
-begin-requires c κs = search needs
 
 loop-holds : tie.Need-loop-holds Inv-loop μ-loop
 loop-holds c = search needs
@@ -49,7 +46,6 @@ send-signalling-spec =
     Inv-loop
     μ-loop
     start-requires
-    begin-requires
     loop-holds
     next-requires
     octets-of-requires

@@ -4,13 +4,10 @@ use Rattle.rows.proofs.texts.read_each.Statement.{statement}
 use Rattle.rows.proofs.texts.read_each.Tie as tie
 
 abbrev Inv-loop : tie.InvT-loop
-Inv-loop input works first table₀ all acc₀ walk₀ table acc walk = Unit {0}
+Inv-loop items table₀ all acc₀ walk₀ table acc walk = Unit {0}
 
 abbrev μ-loop : tie.MeasureT-loop
-μ-loop input works first table₀ all acc₀ walk₀ table acc walk = walk .left
-
-begin-requires : tie.Need-begin-requires Inv-loop μ-loop
-begin-requires c κs = search needs
+μ-loop items table₀ all acc₀ walk₀ table acc walk = walk .left
 
 loop-holds : tie.Need-loop-holds Inv-loop μ-loop
 loop-holds c = search needs
@@ -39,7 +36,6 @@ read-each-spec =
     (tie.spec
     Inv-loop
     μ-loop
-    begin-requires
     loop-holds
     next-requires
     octets-of-requires

@@ -6,13 +6,10 @@ use Rattle.rows.proofs.writes.write_each.Statement.{statement}
 use Rattle.rows.proofs.writes.write_each.Tie as tie
 
 abbrev Inv-loop : tie.InvT-loop
-Inv-loop input₀ works first table room₀ all acc₀ walk₀ input room acc walk = (length input ≡ length input₀) × (length room ≡ length room₀)
+Inv-loop items₀ table room₀ all acc₀ walk₀ items room acc walk = (length items ≡ length items₀) × (length room ≡ length room₀)
 
 abbrev μ-loop : tie.MeasureT-loop
-μ-loop input₀ works first table room₀ all acc₀ walk₀ input room acc walk = walk .left
-
-begin-requires : tie.Need-begin-requires Inv-loop μ-loop
-begin-requires c κs = search needs
+μ-loop items₀ table room₀ all acc₀ walk₀ items room acc walk = walk .left
 
 loop-holds : tie.Need-loop-holds Inv-loop μ-loop
 loop-holds c = (search needs, search needs)
@@ -29,20 +26,14 @@ octets-of-requires c κs = search needs
 write-requires : tie.Need-write-requires Inv-loop μ-loop
 write-requires c κs = search needs
 
-octets-requires : tie.Need-octets-requires Inv-loop μ-loop
-octets-requires c κs = search needs
+shown-requires : tie.Need-shown-requires Inv-loop μ-loop
+shown-requires c κs = search needs
 
 loop-less : tie.Need-loop-less Inv-loop μ-loop
 loop-less c = search needs
 
 loop-again : tie.Need-loop-again Inv-loop μ-loop
 loop-again c = (search needs, search needs)
-
-loop-less-2 : tie.Need-loop-less-2 Inv-loop μ-loop
-loop-less-2 c = search needs
-
-loop-again-2 : tie.Need-loop-again-2 Inv-loop μ-loop
-loop-again-2 c = (search needs, search needs)
 
 same-length : tie.Need-same-length Inv-loop μ-loop
 same-length c = search needs
@@ -59,17 +50,14 @@ write-each-spec =
     (tie.spec
     Inv-loop
     μ-loop
-    begin-requires
     loop-holds
     next-requires
     set-in-requires
     octets-of-requires
     write-requires
-    octets-requires
+    shown-requires
     loop-less
     loop-again
-    loop-less-2
-    loop-again-2
     same-length
     same-length-2
     returns)
