@@ -12,8 +12,8 @@ use fax::Stamp;
 use octets::Fit;
 use record::syntax::Record;
 use record::syntax::Syntax;
-use signalling::layout::Signalling;
 use sid::Sid;
+use signalling::layout::Signalling;
 use writer::primary::Primary;
 
 pub fn take(line: &[u8], table: &[u16; 256]) {

@@ -11,9 +11,9 @@ use fax::Command;
 use fax::FaxRead;
 use fax::Stamp;
 use record::syntax::Record;
-use signalling::layout::Signalling;
 use sid::Sid;
 use sid::SidRead;
+use signalling::layout::Signalling;
 use voice::VoiceRead;
 
 pub fn same_speech(payload: &[u8], rec: Record, seed: u64) -> bool {
