@@ -1,4 +1,4 @@
--- Octets that a line states in lower-case hex, two characters an octet (crates/recording/specs/Hex.antt).
+-- Octets that a line states in lower-case hex, two characters an octet (crates/hexline/specs/Hex.antt).
 use Prim.Native.Nat.{ℕ, _+_, _-_, _*_}
 use mathlib.Core.List.{List, [], _∷_}
 use mathlib.Core.Bool.{Bool, cond, _&&_}

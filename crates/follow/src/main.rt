@@ -26,7 +26,7 @@ enum Argument {
     NoCid,
 }
 
-// Follows a piece of the input, as much of it as the room for the output takes: with room for a line, some of it.
+// Follows a piece of the input, as much of it as the room for the output takes: some of it, since that has room for a line.
 fn follow_piece(
     input: &[u8],
     piece: Piece,
@@ -38,7 +38,8 @@ fn follow_piece(
     out: &mut [u8],
 ) -> Stands
     requires { ⌜ Within piece (length (now input)) ⌝ }
-    ensures { λ r. ⌜ (mostFollowed ≤ length (now (out .entry)) → piece .from < piece .to → piece .from < r .at) ⌝ }
+    requires { ⌜ mostFollowed ≤ length (now out) ⌝ }
+    ensures { λ r. ⌜ (piece .from < piece .to → piece .from < r .at) ⌝ }
 {
     let from = piece.from;
     let to = piece.to;
@@ -82,7 +83,9 @@ fn follow_all(
     table: &[u16; 256],
     cid: u8,
     out: &mut [u8],
-) {
+)
+    requires { ⌜ mostFollowed ≤ length (now out) ⌝ }
+{
     let mut left = first;
     let mut begun = Begun { have: 0, number: 0 };
     let mut trunk = trunk::fresh();

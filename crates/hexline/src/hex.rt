@@ -33,8 +33,8 @@ pub(crate) fn any_other(chars: &[u8]) -> bool
 }
 
 // The octet of two hex characters, of which the first stands in the low half of a number. Both are told at once, which lets the
-// compiler take many pairs at a time: a letter stands 39 further from `0` than its value, and bit 4 of that distance tells it from a
-// digit.
+// compiler take many pairs at a time: a letter stands 39 further from `0` than its value, and the bit of 16 in that distance tells it
+// from a digit.
 fn octet_of(both: u16) -> u8
     requires { ⌜ hexValue (both % 256) ≤ 15 ⌝ }
     requires { ⌜ hexValue (both / 256) ≤ 15 ⌝ }

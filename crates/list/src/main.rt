@@ -16,7 +16,7 @@ struct Stands {
     well: bool,
 }
 
-// Lists a piece of the input, as much of it as the room for the output takes: with room for a line, some of it.
+// Lists a piece of the input, as much of it as the room for the output takes: some of it, since that has room for a line.
 fn list_piece(
     input: &[u8],
     piece: Piece,
@@ -26,7 +26,8 @@ fn list_piece(
     out: &mut [u8],
 ) -> Stands
     requires { ⌜ Within piece (length (now input)) ⌝ }
-    ensures { λ r. ⌜ (mostListed ≤ length (now (out .entry)) → piece .from < piece .to → piece .from < r .at) ⌝ }
+    requires { ⌜ mostListed ≤ length (now out) ⌝ }
+    ensures { λ r. ⌜ (piece .from < piece .to → piece .from < r .at) ⌝ }
 {
     let from = piece.from;
     let to = piece.to;
@@ -52,7 +53,9 @@ fn list_all(
     kept: &mut [u8; MOST_KEPT],
     table: &[u16; 256],
     out: &mut [u8],
-) {
+)
+    requires { ⌜ mostListed ≤ length (now out) ⌝ }
+{
     let mut left = first;
     let mut begun = Begun { have: 0, number: 0 };
     // An end that no run reaches.

@@ -133,7 +133,8 @@ pub fn enter(room: usize, writer: Writer, last: bool, cid: u8, ptype: u8, fit: F
     }
 }
 
-// Writes the header before a payload of so many octets: where it tells their number, that is at most 255.
+// Writes the header before a payload of so many octets. A length octet has their number modulo 256: more than 255 are `enter`'s to
+// refuse.
 pub fn lead(frame: &mut [u8], writer: Writer, last: bool, cid: u8, ptype: u8, len: usize) -> Put
     ensures answer { λ r. ⌜ r ≡ headerPut (length (now (frame .entry)) - writer .at) (writer .at) cid ptype last ⌝ }
     ensures holds { λ r. ⌜ now (frame .exit) ≡ leftBy r (now (frame .entry)) (writer .at) (shortestHeader cid ptype last (len % 256)) ⌝ }

@@ -93,6 +93,7 @@ pub(crate) enum Standing {
     NotListed,
 }
 
+// A place from 1 to 7 has its syntax, and no other place has one.
 pub(crate) fn listed_at(at: u16) -> Standing
     ensures { λ r. ⌜ r ≡ cond (ltb 0 at && ltb at 8) (Listed (syntaxAt at)) NotListed ⌝ }
 {

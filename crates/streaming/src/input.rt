@@ -1,10 +1,11 @@
 // A recording from standard input: its text, then piece after piece.
 use provisioning::text::TextAnswer;
 ghost use mathlib.Core.Path.{_≡_};
+ghost use mathlib.Core.Bool.{true};
 ghost use lib.ListN.{length, take};
 ghost use Rattle.recording.specs.Pieces.{textEnd};
 ghost use Rattle.provisioning.specs.Text.{reading, answer, tableAfter};
-ghost use Rattle.streaming.specs.Pieces.{Within, isTaken};
+ghost use Rattle.streaming.specs.Pieces.{Within, left, isTaken};
 
 // A piece of the input: the octets of its room from a place up to another.
 pub struct Piece {
@@ -68,14 +69,23 @@ pub fn begin(program: &[u8], input: &mut [u8], table: &mut [u16; 256]) -> Start
     }
 }
 
-// What is left of a piece; where nothing is, the next one, which is empty at the end of the input.
-pub fn next(input: &mut [u8], piece: Piece) -> Piece
-    ensures { λ r. ⌜ Within r (length (now (input .exit))) ⌝ }
+// Whether some of a piece is left, and it lies within a room of so many octets.
+fn is_left(piece: Piece, room: usize) -> bool
+    ensures { λ r. ⌜ r ≡ left piece room ⌝ }
 {
     if piece.from < piece.to {
-        if piece.to <= input.len() {
-            return piece;
-        }
+        return piece.to <= room;
+    }
+    false
+}
+
+// What is left of a piece, and the room as it was; where nothing is, the next piece, which is empty at the end of the input.
+pub fn next(input: &mut [u8], piece: Piece) -> Piece
+    ensures within { λ r. ⌜ Within r (length (now (input .exit))) ⌝ }
+    ensures rest { λ r. ⌜ (left piece (length (now (input .entry))) ≡ true → (r ≡ piece) × (now (input .exit) ≡ now (input .entry))) ⌝ }
+{
+    if is_left(piece, input.len()) {
+        return piece;
     }
     let to = io::count(libc::read(libc::STDIN_FILENO, input), input);
     Piece { from: 0, to }

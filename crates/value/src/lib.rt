@@ -6,7 +6,8 @@ ghost use Rattle.record.specs.Record.{place};
 
 // What stands behind a key.
 pub enum Value {
-    // A number; or the place of a syntax word in document 01's list, 0 for any other word. `size` counts the octets with the LF.
+    // A number; or the place of a syntax word in document 01's list. `size` counts the octets with the LF. Both are 0 for any other
+    // word.
     Whole { value: u16, size: usize },
     // A malformed number, or no LF comes.
     Malformed,

@@ -25,9 +25,9 @@ add-t15 c =
     let start = c .before .before .before .before .before .before .before .before .before .before in
     let a = start .args in
     let told = c .before .before .before .before .follow-piece in
-    let size = parts.size (a .input .now) (a .piece) (start .pre) in
+    let size = parts.size (a .input .now) (a .piece) (start .pre .0) in
     let takes = within.takes-within (length (a .out .now)) (a .table .now) (a .cid) (a .begun) (a .kept .now) (a .trunk) (parts.part (a .input .now) (a .piece)) (told .result) (told .ensures .0) in
-    omega (arith, start .good .0 .0, start .pre .0, start .pre .1)
+    omega (arith, start .good .0 .0, start .pre .0 .0, start .pre .0 .1)
 
 slice-aggregate-print : tie.Need-slice-aggregate-print
 slice-aggregate-print c = search needs
@@ -43,10 +43,10 @@ returns c =
     let start = c .before .before .before .before .before .before .before .before .before .before .before .before .before in
     let a = start .args in
     let told = c .before .before .before .before .before .before .before .follow-piece in
-    let size = parts.size (a .input .now) (a .piece) (start .pre) in
-    λ enough some.
+    let size = parts.size (a .input .now) (a .piece) (start .pre .0) in
+    λ some.
     let left : 0 < length (parts.part (a .input .now) (a .piece)) = omega (arith, size, some) in
-    let takes = within.takes-some (length (a .out .now)) (a .table .now) (a .cid) (a .begun) (a .kept .now) (a .trunk) (parts.part (a .input .now) (a .piece)) (told .result) (told .ensures .0) enough left in
+    let takes = within.takes-some (length (a .out .now)) (a .table .now) (a .cid) (a .begun) (a .kept .now) (a .trunk) (parts.part (a .input .now) (a .piece)) (told .result) (told .ensures .0) (start .pre .1) left in
     omega (arith, takes)
 
 pub follow-piece-spec : {M : Type 1} → statement M

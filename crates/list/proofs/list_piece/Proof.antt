@@ -25,9 +25,9 @@ add-t12 c =
     let start = c .before .before .before .before .before .before .before .before .before in
     let a = start .args in
     let listed = c .before .before .before .list-piece in
-    let size = parts.size (a .input .now) (a .piece) (start .pre) in
+    let size = parts.size (a .input .now) (a .piece) (start .pre .0) in
     let takes = within.takes-within (length (a .out .now)) (a .table .now) (a .begun) (a .kept .now) (parts.part (a .input .now) (a .piece)) (listed .result) (listed .ensures .0) in
-    omega (arith, start .good .0 .0, start .pre .0, start .pre .1)
+    omega (arith, start .good .0 .0, start .pre .0 .0, start .pre .0 .1)
 
 slice-aggregate-print : tie.Need-slice-aggregate-print
 slice-aggregate-print c = search needs
@@ -43,10 +43,10 @@ returns c =
     let start = c .before .before .before .before .before .before .before .before .before .before .before .before in
     let a = start .args in
     let listed = c .before .before .before .before .before .before .list-piece in
-    let size = parts.size (a .input .now) (a .piece) (start .pre) in
-    λ enough some.
+    let size = parts.size (a .input .now) (a .piece) (start .pre .0) in
+    λ some.
     let left : 0 < length (parts.part (a .input .now) (a .piece)) = omega (arith, size, some) in
-    let takes = within.takes-some (length (a .out .now)) (a .table .now) (a .begun) (a .kept .now) (parts.part (a .input .now) (a .piece)) (listed .result) (listed .ensures .0) enough left in
+    let takes = within.takes-some (length (a .out .now)) (a .table .now) (a .begun) (a .kept .now) (parts.part (a .input .now) (a .piece)) (listed .result) (listed .ensures .0) (start .pre .1) left in
     omega (arith, takes)
 
 pub list-piece-spec : {M : Type 1} → statement M
