@@ -1,5 +1,5 @@
 -- `follow::follow_piece` meets its contract: some of a piece is taken, and no more than it has.
-use Prim.Native.Nat.{_<_, _≤_}
+use Prim.Native.Nat.{_<_}
 use native.Mathlib.Omega.{arith}
 use lib.ListN.{length}
 use Rattle.streaming.proofs.Parts as parts
