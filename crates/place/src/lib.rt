@@ -1,17 +1,13 @@
 // Where the writer stands, and what it tests before a sub-frame's payload (document 01, "Refusal numbers": "Its order: 24, 4,
 // 11 to 16, 22, 23, 21").
 use octets::Fit;
-use octets::Put;
 use payload::layout::Kind;
 use payload::layout::TypeFor;
 use record::syntax::Record;
 use record::table::Found;
 ghost use mathlib.Core.Path.{_≡_};
-ghost use Prim.Native.Nat.{_+_, _-_, _%_};
-ghost use lib.ListN.{length};
-ghost use Rattle.octets.specs.Room.{leftBy};
+ghost use Prim.Native.Nat.{_+_};
 ghost use Rattle.record.specs.Record.{foundAt};
-ghost use Rattle.joining.specs.Joining.{shortestHeader, headerPut};
 ghost use Rattle.place.specs.Place.{freshWriter, channelFor, tooLong, full, placed, entered};
 
 // The largest payload that is not last, by its length octet.
@@ -131,13 +127,4 @@ pub fn enter(room: usize, writer: Writer, last: bool, cid: u8, ptype: u8, fit: F
         Fit::Unfit(number) => Entered::NoPlace(number),
         Fit::Octets(len) => place(room, writer, last, cid, ptype, len),
     }
-}
-
-// Writes the header before a payload of so many octets. A length octet has their number modulo 256: more than 255 are `enter`'s to
-// refuse.
-pub fn lead(frame: &mut [u8], writer: Writer, last: bool, cid: u8, ptype: u8, len: usize) -> Put
-    ensures answer { λ r. ⌜ r ≡ headerPut (length (now (frame .entry)) - writer .at) (writer .at) cid ptype last ⌝ }
-    ensures holds { λ r. ⌜ now (frame .exit) ≡ leftBy r (now (frame .entry)) (writer .at) (shortestHeader cid ptype last (len % 256)) ⌝ }
-{
-    joining::put_header(frame, writer.at, cid, ptype, last, (len % 256) as u8)
 }

@@ -1,6 +1,5 @@
 -- One answer only: the public functions of `place`.
 use mathlib.Core.Path.{refl, sym, _∙_}
-use denote.Ref.{now}
 use Rattle.settled.specs.Settled.{OneAnswer, nothing}
 use Rattle.place.proofs.fresh.Kinds as fresh-kinds
 use Rattle.place.proofs.fresh.Reads as fresh-reads
@@ -8,8 +7,6 @@ use Rattle.place.proofs.channel_for.Kinds as channel-for-kinds
 use Rattle.place.proofs.channel_for.Reads as channel-for-reads
 use Rattle.place.proofs.enter.Kinds as enter-kinds
 use Rattle.place.proofs.enter.Reads as enter-reads
-use Rattle.place.proofs.lead.Kinds as lead-kinds
-use Rattle.place.proofs.lead.Reads as lead-reads
 
 pub fresh : OneAnswer 0 fresh-kinds.ps fresh-kinds.r nothing fresh-reads.Post
 fresh κs a x y s t p q = (p ∙ sym q, refl)
@@ -19,6 +16,3 @@ channel-for κs a x y s t p q = (p ∙ sym q, refl)
 
 pub enter : OneAnswer 0 enter-kinds.ps enter-kinds.r nothing enter-reads.Post
 enter κs a x y s t p q = (p ∙ sym q, refl)
-
-pub lead : OneAnswer 1 lead-kinds.ps lead-kinds.r (λ κs s. now (s .0)) lead-reads.Post
-lead κs a x y s t p q = (p .0 ∙ sym (q .0), cc)

@@ -42,7 +42,7 @@ pub fn write_voice(
                 Entered::NoPlace(number) => Primary::PrimaryRefused(number),
                 Entered::Place { start, len, next } => {
                     voice::put_voice(frame, start, rec, sequence, coding, body);
-                    place::lead(frame, writer, last, cid, ptype, len);
+                    crate::lead::lead(frame, writer, last, cid, ptype, len);
                     Primary::PrimaryTaken(next)
                 }
             }
@@ -73,7 +73,7 @@ pub fn write_data(
                 Entered::NoPlace(number) => Primary::PrimaryRefused(number),
                 Entered::Place { start, len, next } => {
                     data::put_data(frame, start, begins, ends, sequence, body);
-                    place::lead(frame, writer, last, cid, ptype, len);
+                    crate::lead::lead(frame, writer, last, cid, ptype, len);
                     Primary::PrimaryTaken(next)
                 }
             }

@@ -43,7 +43,7 @@ pub fn write_digits(
                 Entered::NoPlace(number) => Signalled::SignalledRefused(number),
                 Entered::Place { start, len, next } => {
                     digits::layout::put_digits(frame, start, digits);
-                    place::lead(frame, writer, last, cid, ptype, len);
+                    crate::lead::lead(frame, writer, last, cid, ptype, len);
                     Signalled::SignalledTaken(next)
                 }
             }
@@ -71,7 +71,7 @@ pub fn write_signalling(
                 Entered::NoPlace(number) => Signalled::SignalledRefused(number),
                 Entered::Place { start, len, next } => {
                     signalling::layout::put_signalling(frame, start, signalling);
-                    place::lead(frame, writer, last, cid, ptype, len);
+                    crate::lead::lead(frame, writer, last, cid, ptype, len);
                     Signalled::SignalledTaken(next)
                 }
             }
@@ -102,7 +102,7 @@ pub fn write_fax(
                 Entered::NoPlace(number) => Signalled::SignalledRefused(number),
                 Entered::Place { start, len, next } => {
                     fax::put_fax(frame, start, sequence, stamp, command, body);
-                    place::lead(frame, writer, last, cid, ptype, len);
+                    crate::lead::lead(frame, writer, last, cid, ptype, len);
                     Signalled::SignalledTaken(next)
                 }
             }
@@ -131,7 +131,7 @@ pub fn write_sid(
                 Entered::NoPlace(number) => Signalled::SignalledRefused(number),
                 Entered::Place { start, len, next } => {
                     sid::put_sid(frame, start, syntax, sid);
-                    place::lead(frame, writer, last, cid, ptype, len);
+                    crate::lead::lead(frame, writer, last, cid, ptype, len);
                     Signalled::SignalledTaken(next)
                 }
             }
