@@ -1,4 +1,4 @@
-pub mod Tests
+pub mod Pages
 pub mod Commands
 pub mod FaxCases
 pub mod MadeReads

@@ -48,14 +48,20 @@ pub enum FaxRead {
     BadFax(u8),
 }
 
-// Document 01's numbers of data octets.
+// Document 01's numbers of data octets: 3, and 12 to 72 in steps of 12.
 fn is_page(octets: usize) -> bool
     ensures { λ r. ⌜ r ≡ isPage octets ⌝ }
 {
-    match octets {
-        3 | 12 | 24 | 36 | 48 | 60 | 72 => true,
-        _ => false,
+    if octets == 3 {
+        return true;
     }
+    if octets == 0 {
+        return false;
+    }
+    if 72 < octets {
+        return false;
+    }
+    octets % 12 == 0
 }
 
 // Whether a command takes so many data octets.

@@ -1,23 +1,66 @@
 -- What `told` gives in each of its cases, and `headerAt` of it.
 use Prim.Native.Nat.{ℕ, _+_, _-_, _<_, _≤_}
 use mathlib.Core.Path.{_≡_, subst, _∙_}
-use mathlib.Core.List.{List}
+use mathlib.Core.List.{List, [], _∷_}
 use mathlib.Core.Bool.{Bool, true, false, cond}
 use native.Mathlib.Omega.{arith}
 use borrow.Author.Tests.{lt-ltb, le-ltb, eq-eqb, ne-eqb}
 use lib.Dec.{ltb, eqb}
 use lib.ListN.{length, drop}
 use Rattle.refusal.specs.Numbers.{sound, headerCut, cidReserved, spareBitSet, lengthPastField, lastWithLength}
+use Rattle.refusal.specs.Order.{_gives_, inOrder}
 use Rattle.header.specs.declared.Header.{Header}
 use Rattle.header.specs.declared.Header.the-variants.{Sub, Bad, Past}
 use Rattle.header.specs.Header.{li, spare, payloadType, size, octet1, octet1a, octet1b, cidOf, isLast, _unless_, told, headerAt}
+
+-- what a header tells, unless 4 or 5 refuses it
+abbrev pub unlessReserved : ℕ → ℕ → Header → Header
+unlessReserved cid a told = inOrder (ltb cid 4 gives cidReserved ∷ ltb 0 (spare a) gives spareBitSet ∷ []) Bad told
+
+module _ (cid a : ℕ) (told : Header) where
+  pub cid-refuses : cid < 4 → unlessReserved cid a told ≡ Bad cidReserved
+  cid-refuses h = simp (lt-ltb cid 4 h)
+
+  module _ (free : 4 ≤ cid) where
+    pub spare-refuses : 0 < spare a → unlessReserved cid a told ≡ Bad spareBitSet
+    spare-refuses h = simp (le-ltb cid 4 free, lt-ltb 0 (spare a) h)
+
+    pub none-refuses : spare a ≤ 0 → unlessReserved cid a told ≡ told
+    none-refuses h = simp (le-ltb cid 4 free, le-ltb 0 (spare a) h)
 
 module _ (at o a b n : ℕ) where
   pub cut : n < size o → told at o a b n ≡ Bad headerCut
   unfolding told
   cut h = simp (lt-ltb n (size o) h)
 
+  -- past the test for 3: what is told unless 4 or 5 comes first
+  abbrev Whole : Header → Type 0
+  Whole h = told at o a b n ≡ unlessReserved (cidOf o a) a h
+
   module _ (whole : size o ≤ n) where
+    pub last-whole :
+        li o ≡ 0
+        → Whole (Sub (record { cid = cidOf o a; ptype = payloadType a; start = at + size o; len = n - size o; last = true }))
+    unfolding told
+    last-whole h = simp (le-ltb n (size o) whole, eq-eqb (li o) 0 h)
+
+    module _ (more : li o ≡ 0 → ⊥) where
+      pub past-whole : n - size o < b → Whole (Bad lengthPastField)
+      unfolding told
+      past-whole h = simp (le-ltb n (size o) whole, ne-eqb (li o) 0 more, lt-ltb (n - size o) b h)
+
+      module _ (within : b ≤ n - size o) where
+        pub ends-whole : n - size o ≡ b → Whole (Bad lastWithLength)
+        unfolding told
+        ends-whole h = simp (le-ltb n (size o) whole, ne-eqb (li o) 0 more, le-ltb (n - size o) b within, eq-eqb (n - size o) b h)
+
+        pub another-whole :
+            (n - size o ≡ b → ⊥)
+            → Whole (Sub (record { cid = cidOf o a; ptype = payloadType a; start = at + size o; len = b; last = false }))
+        unfolding told
+        another-whole h =
+            simp (le-ltb n (size o) whole, ne-eqb (li o) 0 more, le-ltb (n - size o) b within, ne-eqb (n - size o) b h)
+
     pub reserved : cidOf o a < 4 → told at o a b n ≡ Bad cidReserved
     unfolding told
     reserved h = simp (le-ltb n (size o) whole, lt-ltb (cidOf o a) 4 h)
@@ -30,38 +73,26 @@ module _ (at o a b n : ℕ) where
           simp (le-ltb n (size o) whole, le-ltb (cidOf o a) 4 free, lt-ltb 0 (spare a) set)
 
       module _ (clear : spare a ≡ 0) where
-        none-set : spare a ≤ 0
-        none-set = omega arith
+        free-whole : {h : Header} → Whole h → told at o a b n ≡ h
+        free-whole w = w ∙ none-refuses (cidOf o a) a _ free (omega arith)
 
         pub last-one :
             li o ≡ 0
             → told at o a b n ≡ Sub (record { cid = cidOf o a; ptype = payloadType a; start = at + size o; len = n - size o; last = true })
-        unfolding told
-        last-one h =
-            simp (le-ltb n (size o) whole, le-ltb (cidOf o a) 4 free, le-ltb 0 (spare a) none-set, eq-eqb (li o) 0 h)
+        last-one h = free-whole (last-whole h)
 
         module _ (more : li o ≡ 0 → ⊥) where
-          -- past the tests for 3, 4 and 5, where LI is 1
-          on :
-              told at o a b n
-              ≡ cond (ltb (n - size o) b) (Bad lengthPastField)
-              (cond (eqb (n - size o) b) (Bad lastWithLength)
-              (Sub (record { cid = cidOf o a; ptype = payloadType a; start = at + size o; len = b; last = false })))
-          unfolding told
-          on =
-              simp (le-ltb n (size o) whole, le-ltb (cidOf o a) 4 free, le-ltb 0 (spare a) none-set, ne-eqb (li o) 0 more)
-
           pub past : n - size o < b → told at o a b n ≡ Bad lengthPastField
-          past h = on ∙ simp (lt-ltb (n - size o) b h)
+          past h = free-whole (past-whole more h)
 
           module _ (within : b ≤ n - size o) where
             pub ends : n - size o ≡ b → told at o a b n ≡ Bad lastWithLength
-            ends h = on ∙ simp (le-ltb (n - size o) b within, eq-eqb (n - size o) b h)
+            ends h = free-whole (ends-whole more within h)
 
             pub another :
                 (n - size o ≡ b → ⊥)
                 → told at o a b n ≡ Sub (record { cid = cidOf o a; ptype = payloadType a; start = at + size o; len = b; last = false })
-            another h = on ∙ simp (le-ltb (n - size o) b within, ne-eqb (n - size o) b h)
+            another h = free-whole (another-whole more within h)
 
 module _ (s : List ℕ) (at : ℕ) where
   pub nothing : length s ≤ at → headerAt s at ≡ Past

@@ -1,56 +1,20 @@
 -- A header by the octets that the code reads: octet 1 and 1a, and the place behind them.
 use Prim.Native.Nat.{ℕ, _+_, _-_, _%_, _<_, _≤_}
-use mathlib.Core.Path.{_≡_, sym, ap, _∙_}
-use mathlib.Core.List.{List, [], _∷_}
+use mathlib.Core.Path.{_≡_, refl, sym, ap, _∙_}
+use mathlib.Core.List.{List}
 use mathlib.Core.Bool.{true, false, cond}
-use mathlib.Core.Logic.{_⊎_, ⊎-elim}
 use native.Mathlib.Nat.{add-zero}
 use native.Mathlib.Omega.{arith}
 use borrow.Author.Tests.{lt-ltb, le-ltb, eq-eqb, ne-eqb}
-use lib.Dec.{ltb, eqb}
+use lib.Dec.{eqb}
 use lib.ListN.{length, getD, drop, length-drop}
 use lib.Seq.{getD-drop}
-use Rattle.octets.proofs.Order.{lt-or-le}
-use Rattle.refusal.specs.Numbers.{sound, headerCut, cidReserved, spareBitSet, lengthPastField, lastWithLength}
-use Rattle.refusal.specs.Order.{_gives_, inOrder}
+use Rattle.refusal.specs.Numbers.{headerCut, lengthPastField, lastWithLength}
 use Rattle.header.specs.declared.SubFrame.{SubFrame}
+use Rattle.header.specs.declared.Header.{Header}
 use Rattle.header.specs.declared.Header.the-variants.{Sub, Bad}
-use Rattle.header.specs.Header.{ei, li, spare, payloadType, size, octet1, cidOf, subOf, told, headerAt, unused, subAt}
+use Rattle.header.specs.Header.{ei, li, payloadType, size, octet1, cidOf, subOf, told, headerAt, unused, subAt}
 use Rattle.header.proofs.HeaderCases as cases
-
--- the refusal of a reserved CID or of a spare bit, 0 for none
-abbrev pub fieldsRefused : ℕ → ℕ → ℕ
-fieldsRefused cid a = inOrder (ltb cid 4 gives cidReserved ∷ ltb 0 (spare a) gives spareBitSet ∷ []) (λ n. n) sound
-
-module _ (cid a : ℕ) where
-  pub cid-refused : cid < 4 → fieldsRefused cid a ≡ cidReserved
-  cid-refused h = simp (lt-ltb cid 4 h)
-
-  module _ (free : 4 ≤ cid) where
-    pub spare-refused : 0 < spare a → fieldsRefused cid a ≡ spareBitSet
-    spare-refused h = simp (le-ltb cid 4 free, lt-ltb 0 (spare a) h)
-
-    pub none-refused : spare a ≤ 0 → fieldsRefused cid a ≡ sound
-    none-refused h = simp (le-ltb cid 4 free, le-ltb 0 (spare a) h)
-
-  fields-sound : fieldsRefused cid a ≡ sound → (4 ≤ cid) × (spare a ≡ 0)
-  fields-sound e =
-      ⊎-elim (λ small. absurd (omega (arith, cid-refused small)))
-      (λ free.
-      ⊎-elim (λ set. absurd (omega (arith, spare-refused free set))) (λ none. (free, omega arith)) (lt-or-le 0 (spare a)))
-      (lt-or-le cid 4)
-
--- such a header is refused with that number
-fields-told : (at o a b n : ℕ) → size o ≤ n → (fieldsRefused (cidOf o a) a ≡ sound → ⊥) → told at o a b n ≡ Bad (fieldsRefused (cidOf o a) a)
-fields-told at o a b n whole some =
-    let cid : ℕ = cidOf o a in
-    ⊎-elim (λ small. cases.reserved at o a b n whole small ∙ ap Bad (sym (cid-refused cid a small)))
-    (λ free.
-    ⊎-elim
-    (λ set. cases.spare-set at o a b n whole free (λ z. omega (arith, z)) ∙ ap Bad (sym (spare-refused cid a free set)))
-    (λ none. absurd (some (none-refused cid a free none)))
-    (lt-or-le 0 (spare a)))
-    (lt-or-le cid 4)
 
 -- What was read of the header at `at`: a is octet 1a, 0 without it, and what is behind these octets begins at `next`.
 pub record Way (s : List ℕ) (at a next : ℕ) : Type 0 where
@@ -148,58 +112,34 @@ module _ {s : List ℕ} {at a next cid : ℕ} (r : Begun s at a next cid) where
     pub cut : (li o ≡ 0 → ⊥) → length s - next ≡ 0 → Bad headerCut ≡ headerAt s at
     cut more none = sym (told-is ∙ cases.cut at o a b n (omega (arith, r .way .behind, one more)))
 
-    module _ {number : ℕ} (number-is : number ≡ fieldsRefused cid a) where
-      fields-are : fieldsRefused (cidOf o a) a ≡ number
-      fields-are = sym (number-is ∙ ap (λ (x : ℕ). fieldsRefused x a) (r .cid-is))
+    -- a header that is there whole, with what is told unless 4 or 5 comes first
+    whole-told : {h k : Header} → h ≡ k → told at o a b n ≡ cases.unlessReserved (cidOf o a) a k → cases.unlessReserved cid a h ≡ headerAt s at
+    whole-told same w = rw (r .cid-is, same) (sym (told-is ∙ w))
 
-      refused : size o ≤ n → (number ≡ sound → ⊥) → Bad number ≡ headerAt s at
-      refused whole some =
-          sym (told-is ∙ fields-told at o a b n whole (λ z. some (sym fields-are ∙ z)) ∙ ap Bad fields-are)
+    pub last-one : li o ≡ 0 → cases.unlessReserved cid a (Sub final-sub) ≡ headerAt s at
+    last-one final =
+        whole-told (ap Sub (final-is final)) (cases.last-whole at o a b n (omega (arith, r .way .behind, r .here)) final)
 
-      fine : number ≡ sound → (4 ≤ cidOf o a) × (spare a ≡ 0)
-      fine good = fields-sound (cidOf o a) a (fields-are ∙ good)
+    module _ (more : li o ≡ 0 → ⊥) (some : length s - next ≡ 0 → ⊥) where
+      whole : size o ≤ n
+      whole = omega (arith, r .way .behind, r .here, one more, some)
 
-      module _ (final : li o ≡ 0) where
-        whole-last : size o ≤ n
-        whole-last = omega (arith, r .way .behind, r .here)
+      abbrev len : ℕ
+      len = getD s next 0
 
-        pub last-refused : (number ≡ sound → ⊥) → Bad number ≡ headerAt s at
-        last-refused = refused whole-last
+      is : b ≡ len
+      is = length-octet (one more)
 
-        pub last-one : number ≡ sound → Sub final-sub ≡ headerAt s at
-        last-one good =
-            ap Sub (final-is final) ∙ sym (told-is ∙ cases.last-one at o a b n whole-last (fine good .0) (fine good .1) final)
+      rest-is : n - size o ≡ length s - next - 1
+      rest-is = omega (arith, r .way .behind, one more)
 
-      module _ (more : li o ≡ 0 → ⊥) (some : length s - next ≡ 0 → ⊥) where
-        whole-more : size o ≤ n
-        whole-more = omega (arith, r .way .behind, r .here, one more, some)
+      pub another : len < length s - next - 1 → cases.unlessReserved cid a (Sub more-sub) ≡ headerAt s at
+      another h =
+          whole-told (ap Sub (more-is more))
+          (cases.another-whole at o a b n whole more (omega (arith, is, rest-is)) (λ z. omega (arith, is, rest-is, z)))
 
-        pub more-refused : (number ≡ sound → ⊥) → Bad number ≡ headerAt s at
-        more-refused = refused whole-more
+      pub past : length s - next - 1 < len → cases.unlessReserved cid a (Bad lengthPastField) ≡ headerAt s at
+      past h = whole-told refl (cases.past-whole at o a b n whole more (omega (arith, is, rest-is)))
 
-        module _ (good : number ≡ sound) where
-          abbrev len : ℕ
-          len = getD s next 0
-
-          rest-is : n - size o ≡ length s - next - 1
-          rest-is = omega (arith, r .way .behind, one more)
-
-          pub another : len < length s - next - 1 → Sub more-sub ≡ headerAt s at
-          another h =
-              let is = length-octet (one more) in
-              ap Sub (more-is more)
-              ∙ sym
-              (told-is
-              ∙ cases.another at o a b n whole-more (fine good .0) (fine good .1) more (omega (arith, is, rest-is)) (λ z. omega (arith, is, rest-is, z)))
-
-          pub past : length s - next - 1 < len → Bad lengthPastField ≡ headerAt s at
-          past h =
-              let is = length-octet (one more) in
-              sym (told-is ∙ cases.past at o a b n whole-more (fine good .0) (fine good .1) more (omega (arith, is, rest-is)))
-
-          pub ends : len ≤ length s - next - 1 → length s - next - 1 ≤ len → Bad lastWithLength ≡ headerAt s at
-          ends h g =
-              let is = length-octet (one more) in
-              sym
-              (told-is
-              ∙ cases.ends at o a b n whole-more (fine good .0) (fine good .1) more (omega (arith, is, rest-is)) (omega (arith, is, rest-is)))
+      pub ends : len ≤ length s - next - 1 → length s - next - 1 ≤ len → cases.unlessReserved cid a (Bad lastWithLength) ≡ headerAt s at
+      ends h g = whole-told refl (cases.ends-whole at o a b n whole more (omega (arith, is, rest-is)) (omega (arith, is, rest-is)))

@@ -2,8 +2,9 @@
 ghost use mathlib.Core.Path.{_≡_};
 ghost use mathlib.Core.List.{[], _∷_};
 ghost use lib.Dec.{ltb};
-ghost use Rattle.refusal.specs.Numbers.{sound, cidReserved, spareBitSet};
+ghost use Rattle.refusal.specs.Numbers.{cidReserved, spareBitSet};
 ghost use Rattle.refusal.specs.Order.{_gives_, inOrder};
+ghost use Rattle.header.specs.declared.Header.the-variants.{Bad};
 ghost use Rattle.header.specs.Header.{spare, cidOf, headerAt, subAt};
 
 // A sub-frame of a frame: its payload is the len octets of the frame from start on.
@@ -40,17 +41,17 @@ fn cid_of(octet1: u8, octet1a: u8) -> u8
     octet1a / 64 * 64 + octet1 % 64
 }
 
-// The refusal of a reserved CID or of a spare bit.
-fn reserved(cid: u8, octet1a: u8) -> u8
-    ensures { λ r. ⌜ r ≡ inOrder (ltb cid 4 gives cidReserved ∷ ltb 0 (spare octet1a) gives spareBitSet ∷ []) (λ n. n) sound ⌝ }
+// What a header tells, unless a reserved CID or a spare bit refuses it.
+fn unless_reserved(cid: u8, octet1a: u8, told: Header) -> Header
+    ensures { λ r. ⌜ r ≡ inOrder (ltb cid 4 gives cidReserved ∷ ltb 0 (spare octet1a) gives spareBitSet ∷ []) Bad told ⌝ }
 {
     if cid < 4 {
-        return refusal::CID_RESERVED;
+        return Header::Bad(refusal::CID_RESERVED);
     }
     if 0 < octet1a / 16 % 4 {
-        return refusal::SPARE_BIT_SET;
+        return Header::Bad(refusal::SPARE_BIT_SET);
     }
-    refusal::SOUND
+    told
 }
 
 // The header whose first octet stands at `at`.
@@ -74,40 +75,35 @@ pub fn header_at(frame: &[u8], at: usize) -> Header
     let left = frame.len() - next;
     let cid = cid_of(octet1, octet1a);
     let ptype = octet1a % 16;
-    let number = reserved(cid, octet1a);
     if octet1 / 64 % 2 == 0 {
-        if number != refusal::SOUND {
-            return Header::Bad(number);
-        }
-        return Header::Sub(SubFrame {
+        let sub = Header::Sub(SubFrame {
             cid,
             ptype,
             start: next,
             len: left,
             last: true,
         });
+        return unless_reserved(cid, octet1a, sub);
     }
     if left == 0 {
         return Header::Bad(refusal::HEADER_CUT);
     }
-    if number != refusal::SOUND {
-        return Header::Bad(number);
-    }
     let len = frame[next] as usize;
     let rest = left - 1;
     if len < rest {
-        return Header::Sub(SubFrame {
+        let sub = Header::Sub(SubFrame {
             cid,
             ptype,
             start: next + 1,
             len,
             last: false,
         });
+        return unless_reserved(cid, octet1a, sub);
     }
     if rest < len {
-        return Header::Bad(refusal::LENGTH_PAST_FIELD);
+        return unless_reserved(cid, octet1a, Header::Bad(refusal::LENGTH_PAST_FIELD));
     }
-    Header::Bad(refusal::LAST_WITH_LENGTH)
+    unless_reserved(cid, octet1a, Header::Bad(refusal::LAST_WITH_LENGTH))
 }
 
 // The sub-frame whose header stands at `at`, of a frame whose headers were checked.

@@ -7,21 +7,10 @@ use native.Mathlib.Omega.{arith}
 use lib.Dec.{eqb}
 use lib.ListN.{length, take}
 use Rattle.octets.proofs.Order.{clash}
-use Rattle.octets.proofs.Table.{entries}
 use Rattle.record.specs.declared.syntax.Syntax.{Syntax}
 use Rattle.record.specs.declared.syntax.Syntax.the-variants.{Acelp, Pcm, G727, G728, G7231, Data, Fax}
 use Rattle.record.specs.declared.syntax.Record.{Record}
-use Rattle.voice.specs.Voice.{codings, pcmOctets, g727Octets, blockOctets, isG7231, frontBy, frontOf, voiceless, mostSequence}
-
-pub block-small : (syntax : Syntax) (coding : ℕ) → blockOctets syntax coding ≤ 40
-unfolding blockOctets
-block-small Acelp coding = omega arith
-block-small Pcm coding = entries 40 pcmOctets tt coding
-block-small G727 coding = entries 40 g727Octets tt coding
-block-small G728 coding = omega arith
-block-small G7231 coding = omega arith
-block-small Data coding = omega arith
-block-small Fax coding = omega arith
+use Rattle.voice.specs.Voice.{codings, isG7231, frontBy, frontOf, voiceless, mostSequence}
 
 pub codings-small : (syntax : Syntax) → codings syntax ≤ 15
 codings-small Acelp = omega arith

@@ -2,7 +2,7 @@
 use Prim.Native.Nat.{ℕ, _+_, _-_, _*_, _/_, _%_, _<_, _≤_}
 use mathlib.Core.Path.{_≡_, refl, ap, _∙_}
 use mathlib.Core.List.{List, _∷_, _++_}
-use mathlib.Core.Bool.{true, false, cond, _&&_}
+use mathlib.Core.Bool.{Bool, true, false, cond, not, _&&_}
 use native.Mathlib.Omega.{arith}
 use borrow.Author.Tests.{lt-ltb, le-ltb, le-leb, lt-leb, eq-eqb, ne-eqb, ltb-false, leb-false}
 use lib.Dec.{ltb, leb, eqb}
@@ -12,9 +12,11 @@ use Rattle.octets.proofs.MadeBack.{never-made}
 use Rattle.refusal.specs.Numbers.{sound, typeNotAllowed, lengthWrong, reservedCode, valueOutOfRange, codingTypeUnknown}
 use Rattle.refusal.specs.Order.{_gives_}
 use Rattle.octets.specs.Made.{made, unmade}
+use Rattle.record.specs.declared.syntax.Syntax.{Syntax}
 use Rattle.record.specs.declared.syntax.Record.{Record}
 use Rattle.voice.specs.declared.VoiceRead.the-variants.{Voice, BadVoice}
 use Rattle.voice.specs.Voice.{codings, blockOctets, bothFlags, g7231Octets, isG7231, bodyOctets, frontOf, deciding, frontOctet, sequenceIn, codingIn, bodyIn, voiceless, bodyRefusals, voiceRead, mostSequence, writeRefusals, frontOctets, voiceMade}
+use Rattle.voice.specs.Private.{lengthNumber, blocksNumber}
 use Rattle.refusal.proofs.Order.{Stops, here, past, Passes, stopped, sounds, passed, numberOf, by-number}
 use Rattle.voice.proofs.Sizes as sizes
 
@@ -56,32 +58,9 @@ module _ (r : Record) (coding : ℕ) (body : List ℕ) (frame : isG7231 (r .synt
             tells r coding body
             (past there (past known (past unflagged (here (rw (frame, ne-eqb (length body) (g7231Octets (getD body 0 0)) h))))))
 
--- blocks
-module _ (r : Record) (coding : ℕ) (body : List ℕ) (blocks : isG7231 (r .syntax) ≡ false) where
-  begun : ltb (length body) (deciding (r .syntax)) ≡ false
-  begun = rw blocks (le-ltb (length body) 0 (omega arith))
-
-  pub block-unknown : codings (r .syntax) ≤ coding → numberOf (bodyRefusals r coding body) ≡ codingTypeUnknown
-  block-unknown h = tells r coding body (past begun (here (le-leb (codings (r .syntax)) coding h)))
-
-  module _ (known : coding < codings (r .syntax)) where
-    coded : leb (codings (r .syntax)) coding ≡ false
-    coded = lt-leb (codings (r .syntax)) coding known
-
-    no-flags : (isG7231 (r .syntax) && bothFlags (getD body 0 0)) ≡ false
-    no-flags = rw blocks
-
-    pub block-sound : length body ≡ r .m * blockOctets (r .syntax) coding → numberOf (bodyRefusals r coding body) ≡ sound
-    unfolding bodyOctets
-    block-sound h =
-        sounds (λ n. n) 0 (bodyRefusals r coding body)
-        (begun, (coded, (no-flags, (rw (blocks, eq-eqb (length body) (r .m * blockOctets (r .syntax) coding) h), tt))))
-
-    pub block-wrong : (length body ≡ r .m * blockOctets (r .syntax) coding → ⊥) → numberOf (bodyRefusals r coding body) ≡ lengthWrong
-    unfolding bodyOctets
-    block-wrong h =
-        tells r coding body
-        (past begun (past coded (past no-flags (here (rw (blocks, ne-eqb (length body) (r .m * blockOctets (r .syntax) coding) h))))))
+turned : (same : Bool) → cond (not same) lengthWrong sound ≡ cond same sound lengthWrong
+turned true = refl
+turned false = refl
 
 -- reading and writing, by the number of the body
 abbrev pub bodyNumber : Record → ℕ → List ℕ → ℕ
@@ -91,8 +70,27 @@ module _ (r : Record) (coding : ℕ) (body : List ℕ) where
   pub no-voice : codings (r .syntax) ≡ 0 → bodyNumber r coding body ≡ typeNotAllowed
   no-voice h = rw h
 
-  pub with-voice : (codings (r .syntax) ≡ 0 → ⊥) → bodyNumber r coding body ≡ numberOf (bodyRefusals r coding body)
-  with-voice h = rw (ne-eqb (codings (r .syntax)) 0 h)
+  pub frame-number : isG7231 (r .syntax) ≡ true → bodyNumber r coding body ≡ numberOf (bodyRefusals r coding body)
+  frame-number frame = rw (sizes.frame-coding (r .syntax) frame)
+
+  -- blocks of a syntax
+  pub blocks-number :
+      {syntax : Syntax}
+      → r .syntax ≡ syntax
+      → isG7231 syntax ≡ false
+      → voiceless syntax ≡ false
+      → bodyNumber r coding body ≡ blocksNumber syntax (r .m) coding (length body)
+  unfolding bodyOctets
+  blocks-number {syntax} is blocks voice =
+      simp (is, blocks, voice, le-ltb (length body) 0 (omega arith))
+      (ap (cond (leb (codings syntax) coding) codingTypeUnknown) (turned (eqb (length body) (r .m * blockOctets syntax coding))))
+
+module _ (syntax : Syntax) (m coding len : ℕ) where
+  pub unknown-number : codings syntax ≤ coding → blocksNumber syntax m coding len ≡ codingTypeUnknown
+  unknown-number h = simp (le-leb (codings syntax) coding h)
+
+  pub known-number : {each : ℕ} → coding < codings syntax → each ≡ blockOctets syntax coding → blocksNumber syntax m coding len ≡ lengthNumber m each len
+  known-number h is = simp (lt-leb (codings syntax) coding h, is)
 
 pub missing : (r : Record) (payload : List ℕ) → length payload < frontOf r → voiceRead r payload ≡ BadVoice lengthWrong
 unfolding voiceRead

@@ -1,2 +1,3 @@
 pub mod Voice
+pub mod Private
 pub mod Claims

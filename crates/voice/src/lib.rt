@@ -7,12 +7,14 @@ use record::syntax::Syntax;
 ghost use mathlib.Core.Path.{_≡_};
 ghost use mathlib.Core.Bool.{true};
 ghost use lib.ListN.{getD};
-ghost use Prim.Native.Nat.{_*_, _<_};
+ghost use Prim.Native.Nat.{_<_, _≤_};
 ghost use Rattle.octets.specs.Made.{fitOf, putMade, leftMade};
 ghost use mathlib.Core.List.{_∷_};
 ghost use Rattle.refusal.specs.Numbers.{sound, typeNotAllowed};
 ghost use Rattle.refusal.specs.Order.{_gives_, inOrder};
-ghost use Rattle.voice.specs.Voice.{codings, pcmOctets, g727Octets, blockOctets, g7231Octets, isG7231, seqFront, frontBy, frontOf, voiceless, bodyRefusals, voiceRead, mostSequence, voiceMade};
+ghost use Rattle.record.specs.declared.syntax.Syntax.the-variants.{Acelp, Pcm, G727};
+ghost use Rattle.voice.specs.Voice.{codings, pcmOctets, g727Octets, g7231Octets, isG7231, seqFront, frontBy, frontOf, voiceless, bodyRefusals, voiceRead, mostSequence, voiceMade};
+ghost use Rattle.voice.specs.Private.{lengthNumber, blocksNumber};
 
 // The octets of a coding type, of Annex F and of Annex G.
 const PCM_OCTETS: [u8; 14] = [40, 35, 30, 40, 35, 30, 25, 20, 15, 10, 25, 20, 15, 10];
@@ -62,28 +64,44 @@ fn g727_octets(coding: u8) -> usize
     octets::wide(G727_OCTETS[at])
 }
 
-// The octets of one block.
-fn block_octets(syntax: Syntax, coding: u8) -> usize
-    requires { ⌜ coding < codings syntax ⌝ }
-    ensures { λ r. ⌜ r ≡ blockOctets syntax coding ⌝ }
+// The refusal number of m blocks of so many octets each.
+fn length_refusal(m: u8, each: usize, len: usize) -> u8
+    requires { ⌜ each ≤ 40 ⌝ }
+    ensures { λ r. ⌜ r ≡ lengthNumber m each len ⌝ }
 {
-    match syntax {
-        Syntax::Acelp => 10,
-        Syntax::Pcm => pcm_octets(coding),
-        Syntax::G727 => g727_octets(coding),
-        Syntax::G728 => 10,
-        Syntax::G7231 => 0,
-        Syntax::Data => 0,
-        Syntax::Fax => 0,
+    if len == octets::wide(m) * each {
+        return refusal::SOUND;
     }
+    refusal::LENGTH_WRONG
 }
 
-// The octets of m blocks.
-fn blocks_octets(m: u8, syntax: Syntax, coding: u8) -> usize
-    requires { ⌜ coding < codings syntax ⌝ }
-    ensures { λ r. ⌜ r ≡ m * blockOctets syntax coding ⌝ }
+// The refusal number of blocks of acelp or g728, which have one coding type.
+fn ten_refusal(m: u8, coding: u8, len: usize) -> u8
+    ensures { λ r. ⌜ r ≡ blocksNumber Acelp m coding len ⌝ }
 {
-    octets::wide(m) * block_octets(syntax, coding)
+    if coding != 0 {
+        return refusal::CODING_TYPE_UNKNOWN;
+    }
+    length_refusal(m, 10, len)
+}
+
+// The refusal number of blocks of pcm, and of g727.
+fn pcm_refusal(m: u8, coding: u8, len: usize) -> u8
+    ensures { λ r. ⌜ r ≡ blocksNumber Pcm m coding len ⌝ }
+{
+    if 14 <= coding {
+        return refusal::CODING_TYPE_UNKNOWN;
+    }
+    length_refusal(m, pcm_octets(coding), len)
+}
+
+fn g727_refusal(m: u8, coding: u8, len: usize) -> u8
+    ensures { λ r. ⌜ r ≡ blocksNumber G727 m coding len ⌝ }
+{
+    if 15 <= coding {
+        return refusal::CODING_TYPE_UNKNOWN;
+    }
+    length_refusal(m, g727_octets(coding), len)
 }
 
 // The octets of one G.723.1 frame, from its first octet.
@@ -91,20 +109,6 @@ fn g7231_octets(first: u8) -> usize
     ensures { λ r. ⌜ r ≡ g7231Octets first ⌝ }
 {
     if first % 2 == 0 { 24 } else { 20 }
-}
-
-fn is_g7231(syntax: Syntax) -> bool
-    ensures { λ r. ⌜ r ≡ isG7231 syntax ⌝ }
-{
-    match syntax {
-        Syntax::Acelp => false,
-        Syntax::Pcm => false,
-        Syntax::G727 => false,
-        Syntax::G728 => false,
-        Syntax::G7231 => true,
-        Syntax::Data => false,
-        Syntax::Fax => false,
-    }
 }
 
 // The refusal number of one G.723.1 frame.
@@ -133,20 +137,15 @@ fn body_refusal(rec: Record, coding: u8, body: &[u8]) -> u8
     ensures { λ r. ⌜ r ≡ inOrder (voiceless (rec .syntax) gives typeNotAllowed ∷ bodyRefusals rec coding (now (body .entry))) (λ number. number) sound ⌝ }
 {
     let syntax = rec.syntax;
-    let codings = coding_count(syntax);
-    if codings == 0 {
-        return refusal::TYPE_NOT_ALLOWED;
+    match syntax {
+        Syntax::Acelp => ten_refusal(rec.m, coding, body.len()),
+        Syntax::Pcm => pcm_refusal(rec.m, coding, body.len()),
+        Syntax::G727 => g727_refusal(rec.m, coding, body.len()),
+        Syntax::G728 => ten_refusal(rec.m, coding, body.len()),
+        Syntax::G7231 => frame_refusal(rec, coding, body),
+        Syntax::Data => refusal::TYPE_NOT_ALLOWED,
+        Syntax::Fax => refusal::TYPE_NOT_ALLOWED,
     }
-    if is_g7231(syntax) {
-        return frame_refusal(rec, coding, body);
-    }
-    if codings <= coding {
-        return refusal::CODING_TYPE_UNKNOWN;
-    }
-    if body.len() == blocks_octets(rec.m, syntax, coding) {
-        return refusal::SOUND;
-    }
-    refusal::LENGTH_WRONG
 }
 
 fn seq_front(seq: bool) -> usize

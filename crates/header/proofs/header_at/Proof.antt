@@ -1,5 +1,5 @@
 -- `header::header_at` meets its contract: at each return the tests that led there say which case of `told` holds.
-use mathlib.Core.Path.{sym}
+use mathlib.Core.Path.{sym, _∙_}
 use mathlib.Core.Logic.{⊎-elim}
 use Prim.Native.Nat.{_≤_}
 use borrow.Author.Needs.{needs}
@@ -29,13 +29,13 @@ within : (c : tie.Joined2) → c .if2 .next ≤ length (c .before .before .befor
 within c = ⊎-elim (λ w. omega (arith, w .1 .left, w .4)) (λ w. omega (arith, w .2, c .before .before .if1 .left)) (c .if2 .came)
 
 begun :
-    (c : tie.After-reserved)
-    → let j = c .before .before .before .before in
+    (c : tie.After-cid-of)
+    → let j = c .before .before in
     let a = j .before .before .before .before .args in
-    header.Begun (a .frame .now) (a .at) (j .if2 .octet1a) (j .if2 .next) (c .before .before .cid-of .result)
+    header.Begun (a .frame .now) (a .at) (j .if2 .octet1a) (j .if2 .next) (c .cid-of .result)
 begun c =
-    let j = c .before .before .before .before in
-    record { here = j .before .before .if1 .left; way = way j; cid-is = c .before .before .cid-of .ensures }
+    let j = c .before .before in
+    record { here = j .before .before .if1 .left; way = way j; cid-is = c .cid-of .ensures }
 
 shared-slice-read-octet1 : tie.Need-shared-slice-read-octet1
 shared-slice-read-octet1 c = search needs
@@ -60,42 +60,24 @@ sub-left c = within (c .before)
 cid-of-requires : tie.Need-cid-of-requires
 cid-of-requires c κs = search needs
 
-reserved-requires : tie.Need-reserved-requires
-reserved-requires c κs = search needs
+unless-reserved-requires : tie.Need-unless-reserved-requires
+unless-reserved-requires c κs = search needs
 
 returns-3 : tie.Need-returns-3
 returns-3 c =
-    let r = c .before .before in
-    let known = r .reserved .ensures in
-    let room = within (r .before .before .before .before) in
-    header.last-refused (begun r) room known (c .before .if4 .taken) (c .if5 .taken)
+    let d = c .before .before .before in
+    c .unless-reserved .ensures ∙ header.last-one (begun d) (within (d .before .before)) (c .before .if4 .taken)
 
 returns-4 : tie.Need-returns-4
 returns-4 c =
-    let r = c .before .before in
-    let known = r .reserved .ensures in
-    let room = within (r .before .before .before .before) in
-    header.last-one (begun r) room known (c .before .if4 .taken) (c .if5 .left)
-
-returns-5 : tie.Need-returns-5
-returns-5 c =
-    let r = c .before .before in
-    let known = r .reserved .ensures in
-    let room = within (r .before .before .before .before) in
-    header.cut (begun r) room (c .before .if4 .left) (c .if6 .taken)
-
-returns-6 : tie.Need-returns-6
-returns-6 c =
-    let r = c .before .before .before in
-    let known = r .reserved .ensures in
-    let room = within (r .before .before .before .before) in
-    header.more-refused (begun r) room known (c .before .before .if4 .left) (c .before .if6 .left) (c .if7 .taken)
+    let d = c .before .before .before in
+    header.cut (begun d) (within (d .before .before)) (c .before .if4 .left) (c .if5 .taken)
 
 shared-slice-read-len : tie.Need-shared-slice-read-len
 shared-slice-read-len c = search needs
 
 cast-len : tie.Need-cast-len
-cast-len c = omega (arith, c .shared-slice-known4 .given (c .before .before .before .before .before .before .before .before .if2 .next))
+cast-len c = omega (arith, c .shared-slice-known4 .given (c .before .before .before .before .before .before .if2 .next))
 
 sub-rest : tie.Need-sub-rest
 sub-rest c = search needs
@@ -103,26 +85,35 @@ sub-rest c = search needs
 add-t24 : tie.Need-add-t24
 add-t24 c = search needs
 
+unless-reserved-requires-2 : tie.Need-unless-reserved-requires-2
+unless-reserved-requires-2 c κs = search needs
+
+returns-5 : tie.Need-returns-5
+returns-5 c =
+    let e = c .before .before .before in
+    let d = e .before .before .before in
+    c .unless-reserved2 .ensures
+    ∙ header.another (begun d) (within (d .before .before)) (e .before .if4 .left) (e .if5 .left) (c .before .if6 .taken)
+
+unless-reserved-requires-3 : tie.Need-unless-reserved-requires-3
+unless-reserved-requires-3 c κs = search needs
+
+returns-6 : tie.Need-returns-6
+returns-6 c =
+    let e = c .before .before .before .before in
+    let d = e .before .before .before in
+    c .unless-reserved3 .ensures
+    ∙ header.past (begun d) (within (d .before .before)) (e .before .if4 .left) (e .if5 .left) (c .before .if7 .taken)
+
+unless-reserved-requires-4 : tie.Need-unless-reserved-requires-4
+unless-reserved-requires-4 c κs = search needs
+
 returns-7 : tie.Need-returns-7
 returns-7 c =
-    let r = c .before .before .before .before .before in
-    let known = r .reserved .ensures in
-    let room = within (r .before .before .before .before) in
-    header.another (begun r) room known (c .before .before .before .before .if4 .left) (c .before .before .before .if6 .left) (c .before .before .if7 .left) (c .if8 .taken)
-
-returns-8 : tie.Need-returns-8
-returns-8 c =
-    let r = c .before .before .before .before .before .before in
-    let known = r .reserved .ensures in
-    let room = within (r .before .before .before .before) in
-    header.past (begun r) room known (c .before .before .before .before .before .if4 .left) (c .before .before .before .before .if6 .left) (c .before .before .before .if7 .left) (c .if9 .taken)
-
-returns-9 : tie.Need-returns-9
-returns-9 c =
-    let r = c .before .before .before .before .before .before in
-    let known = r .reserved .ensures in
-    let room = within (r .before .before .before .before) in
-    header.ends (begun r) room known (c .before .before .before .before .before .if4 .left) (c .before .before .before .before .if6 .left) (c .before .before .before .if7 .left) (c .if9 .left) (c .before .if8 .left)
+    let e = c .before .before .before .before in
+    let d = e .before .before .before in
+    c .unless-reserved4 .ensures
+    ∙ header.ends (begun d) (within (d .before .before)) (e .before .if4 .left) (e .if5 .left) (c .before .if7 .left) (c .before .before .if6 .left)
 
 pub header-at-spec : {M : Type 1} → statement M
 header-at-spec =
@@ -136,15 +127,16 @@ header-at-spec =
     add-next-2
     sub-left
     cid-of-requires
-    reserved-requires
+    unless-reserved-requires
     returns-3
     returns-4
-    returns-5
-    returns-6
     shared-slice-read-len
     cast-len
     sub-rest
     add-t24
-    returns-7
-    returns-8
-    returns-9)
+    unless-reserved-requires-2
+    returns-5
+    unless-reserved-requires-3
+    returns-6
+    unless-reserved-requires-4
+    returns-7)

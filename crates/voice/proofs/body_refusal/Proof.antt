@@ -1,69 +1,108 @@
--- `voice::body_refusal` meets its contract.
-use Prim.Native.Nat.{_<_}
-use mathlib.Core.Path.{_≡_, sym, _∙_}
-use mathlib.Core.Bool.{false}
-use Rattle.voice.specs.Voice.{codings, isG7231}
-use Rattle.voice.proofs.VoiceCases as cases
+-- `voice::body_refusal` meets its contract: each syntax has its own rule.
+use mathlib.Core.Path.{refl, sym, _∙_}
 use borrow.Author.Needs.{needs}
+use Rattle.voice.specs.Voice.{blockOctets}
+use Rattle.voice.proofs.VoiceCases as cases
 use Rattle.voice.proofs.body_refusal.Statement.{statement}
 use Rattle.voice.proofs.body_refusal.Tie as tie
 
-voice : (c : tie.Else1) → codings (c .before .before .before .args .rec .syntax) ≡ 0 → ⊥
-voice c z = c .if1 .left (c .before .coding-count .ensures ∙ z)
+enum-told : tie.Need-enum-told
+enum-told c = search needs
 
-blocks : (c : tie.Else2) → isG7231 (c .before .before .before .before .before .args .rec .syntax) ≡ false
-blocks c = sym (c .before .is-g7231 .ensures) ∙ c .if2 .left
+ten-refusal-requires : tie.Need-ten-refusal-requires
+ten-refusal-requires c κs = search needs
 
-known : (c : tie.Else3) → let a = c .before .before .before .before .before .before .args in a .coding < codings (a .rec .syntax)
-known c = rw (c .before .before .before .before .coding-count .ensures) at (c .if3 .left)
+enum-told-2 : tie.Need-enum-told-2
+enum-told-2 c = search needs
 
-coding-count-requires : tie.Need-coding-count-requires
-coding-count-requires c κs = search needs
+pcm-refusal-requires : tie.Need-pcm-refusal-requires
+pcm-refusal-requires c κs = search needs
+
+enum-told-3 : tie.Need-enum-told-3
+enum-told-3 c = search needs
+
+g727-refusal-requires : tie.Need-g727-refusal-requires
+g727-refusal-requires c κs = search needs
+
+enum-told-4 : tie.Need-enum-told-4
+enum-told-4 c = search needs
+
+ten-refusal-requires-2 : tie.Need-ten-refusal-requires-2
+ten-refusal-requires-2 c κs = search needs
+
+enum-told-5 : tie.Need-enum-told-5
+enum-told-5 c = search needs
+
+frame-refusal-requires : tie.Need-frame-refusal-requires
+frame-refusal-requires c κs = rw (c .enum-told5 .given .1)
+
+enum-told-6 : tie.Need-enum-told-6
+enum-told-6 c = search needs
+
+enum-told-7 : tie.Need-enum-told-7
+enum-told-7 c = search needs
 
 returns : tie.Need-returns
 returns c =
-    let a = c .before .before .before .args in
-    sym (cases.no-voice (a .rec) (a .coding) (a .body .now) (sym (c .before .coding-count .ensures) ∙ c .if1 .taken))
-
-is-g7231-requires : tie.Need-is-g7231-requires
-is-g7231-requires c κs = search needs
-
-frame-refusal-requires : tie.Need-frame-refusal-requires
-frame-refusal-requires c κs = search needs
+    let d = c .before in
+    let a = d .before .before .before .args in
+    c .ten-refusal .ensures ∙ sym (cases.blocks-number (a .rec) (a .coding) (a .body .now) (d .enum-told .given .1) refl refl)
 
 returns-2 : tie.Need-returns-2
 returns-2 c =
-    let a = c .before .before .before .before .before .before .args in
-    c .frame-refusal .ensures ∙ sym (cases.with-voice (a .rec) (a .coding) (a .body .now) (voice (c .before .before .before)))
+    let d = c .before in
+    let a = d .before .before .before .args in
+    c .pcm-refusal .ensures ∙ sym (cases.blocks-number (a .rec) (a .coding) (a .body .now) (d .enum-told2 .given .1) refl refl)
 
 returns-3 : tie.Need-returns-3
 returns-3 c =
-    let a = c .before .before .before .before .before .before .args in
-    sym (cases.with-voice (a .rec) (a .coding) (a .body .now) (voice (c .before .before .before)) ∙ cases.block-unknown (a .rec) (a .coding) (a .body .now) (blocks (c .before)) (rw (c .before .before .before .before .coding-count .ensures) at (c .if3 .taken)))
-
-blocks-octets-requires : tie.Need-blocks-octets-requires
-blocks-octets-requires c κs = search needs
+    let d = c .before in
+    let a = d .before .before .before .args in
+    c .g727-refusal .ensures ∙ sym (cases.blocks-number (a .rec) (a .coding) (a .body .now) (d .enum-told3 .given .1) refl refl)
 
 returns-4 : tie.Need-returns-4
+unfolding blockOctets
 returns-4 c =
-    let a = c .before .before .before .before .before .before .before .before .args in
-    sym (cases.with-voice (a .rec) (a .coding) (a .body .now) (voice (c .before .before .before .before .before)) ∙ cases.block-sound (a .rec) (a .coding) (a .body .now) (blocks (c .before .before .before)) (known (c .before .before)) (c .if4 .taken ∙ c .before .blocks-octets .ensures))
+    let d = c .before in
+    let a = d .before .before .before .args in
+    c .ten-refusal2 .ensures ∙ sym (cases.blocks-number (a .rec) (a .coding) (a .body .now) (d .enum-told4 .given .1) refl refl)
 
 returns-5 : tie.Need-returns-5
 returns-5 c =
-    let a = c .before .before .before .before .before .before .before .before .args in
-    sym (cases.with-voice (a .rec) (a .coding) (a .body .now) (voice (c .before .before .before .before .before)) ∙ cases.block-wrong (a .rec) (a .coding) (a .body .now) (blocks (c .before .before .before)) (known (c .before .before)) (λ e. c .if4 .left (e ∙ sym (c .before .blocks-octets .ensures))))
+    let d = c .before in
+    let a = d .before .before .before .args in
+    c .frame-refusal .ensures ∙ sym (cases.frame-number (a .rec) (a .coding) (a .body .now) (rw (d .enum-told5 .given .1)))
+
+returns-6 : tie.Need-returns-6
+returns-6 c =
+    let a = c .before .before .before .args in
+    sym (cases.no-voice (a .rec) (a .coding) (a .body .now) (rw (c .enum-told6 .given .1)))
+
+returns-7 : tie.Need-returns-7
+returns-7 c =
+    let a = c .before .before .before .args in
+    sym (cases.no-voice (a .rec) (a .coding) (a .body .now) (rw (c .enum-told7 .given .1)))
 
 pub body-refusal-spec : {M : Type 1} → statement M
 body-refusal-spec =
     tie.close
     (tie.spec
-    coding-count-requires
-    returns
-    is-g7231-requires
+    enum-told
+    ten-refusal-requires
+    enum-told-2
+    pcm-refusal-requires
+    enum-told-3
+    g727-refusal-requires
+    enum-told-4
+    ten-refusal-requires-2
+    enum-told-5
     frame-refusal-requires
+    enum-told-6
+    enum-told-7
+    returns
     returns-2
     returns-3
-    blocks-octets-requires
     returns-4
-    returns-5)
+    returns-5
+    returns-6
+    returns-7)

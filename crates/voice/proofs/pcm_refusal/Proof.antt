@@ -1,0 +1,26 @@
+-- `voice::pcm_refusal` meets its contract.
+use mathlib.Core.Path.{sym, _∙_}
+use borrow.Author.Needs.{needs}
+use Rattle.octets.proofs.Table.{entries}
+use Rattle.record.specs.declared.syntax.Syntax.the-variants.{Pcm}
+use Rattle.voice.specs.Voice.{pcmOctets, blockOctets}
+use Rattle.voice.proofs.VoiceCases as cases
+use Rattle.voice.proofs.pcm_refusal.Statement.{statement}
+use Rattle.voice.proofs.pcm_refusal.Tie as tie
+
+returns : tie.Need-returns
+returns c = sym (cases.unknown-number Pcm _ _ _ (c .if1 .taken))
+
+pcm-octets-requires : tie.Need-pcm-octets-requires
+pcm-octets-requires c κs = search needs
+
+length-refusal-requires : tie.Need-length-refusal-requires
+length-refusal-requires c κs = rw (c .pcm-octets .ensures) (entries 40 pcmOctets tt (c .before .before .args .coding))
+
+returns-2 : tie.Need-returns-2
+unfolding blockOctets
+returns-2 c =
+    c .length-refusal .ensures ∙ sym (cases.known-number Pcm _ _ _ (c .before .before .if1 .left) (c .before .pcm-octets .ensures))
+
+pub pcm-refusal-spec : {M : Type 1} → statement M
+pcm-refusal-spec = tie.close (tie.spec returns pcm-octets-requires length-refusal-requires returns-2)
