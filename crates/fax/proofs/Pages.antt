@@ -30,16 +30,16 @@ twelves (suc (suc (suc (suc (suc (suc (suc k))))))) some few = absurd (omega ari
 
 module _ (n : ℕ) where
   step : (n ≡ 0 → ⊥) → n ≤ 72 → n % 12 ≡ 0 → isPage n ≡ true
-  step some few even =
-      let whole : n / 12 * 12 ≡ n = omega (arith, even) in
-      subst (λ (x : ℕ). isPage x ≡ true) whole (twelves (n / 12) (omega (arith, some, even)) (omega arith))
+  step some few twelfth =
+      let whole : n / 12 * 12 ≡ n = omega (arith, twelfth) in
+      subst (λ (x : ℕ). isPage x ≡ true) whole (twelves (n / 12) (omega (arith, some, twelfth)) (omega arith))
 
   -- neither 3 nor such a step
   other : (n ≡ 3 → ⊥) → ((x : ℕ) → x % 12 ≡ 0 → x ≤ 72 → n ≡ x → ⊥) → isPage n ≡ false
   unfolding isPage
-  other no-three no-step =
+  other not-three no-step =
       simp (
-        ne-eqb n 3 no-three,
+        ne-eqb n 3 not-three,
         ne-eqb n 12 (no-step 12 refl (omega arith)),
         ne-eqb n 24 (no-step 24 refl (omega arith)),
         ne-eqb n 36 (no-step 36 refl (omega arith)),
@@ -49,10 +49,10 @@ module _ (n : ℕ) where
       )
 
   pub beyond : (n ≡ 3 → ⊥) → 72 < n → isPage n ≡ false
-  beyond no-three far = other no-three (λ x even few e. omega arith)
+  beyond not-three far = other not-three (λ x twelfth few e. omega arith)
 
   pub steps-tell : (n ≡ 3 → ⊥) → (n ≡ 0 → ⊥) → n ≤ 72 → isPage n ≡ eqb (n % 12) 0
-  steps-tell no-three some few =
-      ⊎-elim (λ even. step some few even ∙ sym (eq-eqb (n % 12) 0 even))
-      (λ odd. other no-three (λ x even less e. odd (omega arith)) ∙ sym (ne-eqb (n % 12) 0 odd))
+  steps-tell not-three some few =
+      ⊎-elim (λ twelfth. step some few twelfth ∙ sym (eq-eqb (n % 12) 0 twelfth))
+      (λ not-twelfth. other not-three (λ x twelfth less e. not-twelfth (omega arith)) ∙ sym (ne-eqb (n % 12) 0 not-twelfth))
       (eq-or-ne (n % 12) 0)

@@ -1,32 +1,28 @@
 -- What `told` gives in each of its cases, and `headerAt` of it.
 use Prim.Native.Nat.{ℕ, _+_, _-_, _<_, _≤_}
 use mathlib.Core.Path.{_≡_, subst, _∙_}
-use mathlib.Core.List.{List, [], _∷_}
+use mathlib.Core.List.{List}
 use mathlib.Core.Bool.{Bool, true, false, cond}
 use native.Mathlib.Omega.{arith}
 use borrow.Author.Tests.{lt-ltb, le-ltb, eq-eqb, ne-eqb}
 use lib.Dec.{ltb, eqb}
 use lib.ListN.{length, drop}
 use Rattle.refusal.specs.Numbers.{sound, headerCut, cidReserved, spareBitSet, lengthPastField, lastWithLength}
-use Rattle.refusal.specs.Order.{_gives_, inOrder}
 use Rattle.header.specs.declared.Header.{Header}
 use Rattle.header.specs.declared.Header.the-variants.{Sub, Bad, Past}
 use Rattle.header.specs.Header.{li, spare, payloadType, size, octet1, octet1a, octet1b, cidOf, isLast, _unless_, told, headerAt}
+use Rattle.header.specs.Private.{unlessReserved}
 
--- what a header tells, unless 4 or 5 refuses it
-abbrev pub unlessReserved : ℕ → ℕ → Header → Header
-unlessReserved cid a told = inOrder (ltb cid 4 gives cidReserved ∷ ltb 0 (spare a) gives spareBitSet ∷ []) Bad told
-
-module _ (cid a : ℕ) (told : Header) where
-  pub cid-refuses : cid < 4 → unlessReserved cid a told ≡ Bad cidReserved
-  cid-refuses h = simp (lt-ltb cid 4 h)
+module _ (cid a : ℕ) (h : Header) where
+  pub cid-refuses : cid < 4 → unlessReserved cid a h ≡ Bad cidReserved
+  cid-refuses small = simp (lt-ltb cid 4 small)
 
   module _ (free : 4 ≤ cid) where
-    pub spare-refuses : 0 < spare a → unlessReserved cid a told ≡ Bad spareBitSet
-    spare-refuses h = simp (le-ltb cid 4 free, lt-ltb 0 (spare a) h)
+    pub spare-refuses : 0 < spare a → unlessReserved cid a h ≡ Bad spareBitSet
+    spare-refuses set = simp (le-ltb cid 4 free, lt-ltb 0 (spare a) set)
 
-    pub none-refuses : spare a ≤ 0 → unlessReserved cid a told ≡ told
-    none-refuses h = simp (le-ltb cid 4 free, le-ltb 0 (spare a) h)
+    pub none-refuses : spare a ≤ 0 → unlessReserved cid a h ≡ h
+    none-refuses clear = simp (le-ltb cid 4 free, le-ltb 0 (spare a) clear)
 
 module _ (at o a b n : ℕ) where
   pub cut : n < size o → told at o a b n ≡ Bad headerCut

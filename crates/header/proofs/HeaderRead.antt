@@ -14,6 +14,7 @@ use Rattle.header.specs.declared.SubFrame.{SubFrame}
 use Rattle.header.specs.declared.Header.{Header}
 use Rattle.header.specs.declared.Header.the-variants.{Sub, Bad}
 use Rattle.header.specs.Header.{ei, li, payloadType, size, octet1, cidOf, subOf, told, headerAt, unused, subAt}
+use Rattle.header.specs.Private.{unlessReserved}
 use Rattle.header.proofs.HeaderCases as cases
 
 -- What was read of the header at `at`: a is octet 1a, 0 without it, and what is behind these octets begins at `next`.
@@ -108,38 +109,37 @@ module _ {s : List ℕ} {at a next cid : ℕ} (r : Begun s at a next cid) where
   at-more more len-is = rw len-is (more-is more ∙ sym (sub-is ∙ simp (ne-eqb (li o) 0 more)))
 
   -- what `header_at` answers
-  module _ (within : next ≤ length s) where
-    pub cut : (li o ≡ 0 → ⊥) → length s - next ≡ 0 → Bad headerCut ≡ headerAt s at
-    cut more none = sym (told-is ∙ cases.cut at o a b n (omega (arith, r .way .behind, one more)))
+  pub cut : (li o ≡ 0 → ⊥) → length s - next ≡ 0 → Bad headerCut ≡ headerAt s at
+  cut more none = sym (told-is ∙ cases.cut at o a b n (omega (arith, r .way .behind, one more)))
 
-    -- a header that is there whole, with what is told unless 4 or 5 comes first
-    whole-told : {h k : Header} → h ≡ k → told at o a b n ≡ cases.unlessReserved (cidOf o a) a k → cases.unlessReserved cid a h ≡ headerAt s at
-    whole-told same w = rw (r .cid-is, same) (sym (told-is ∙ w))
+  -- a header that is there whole tells k, unless 4 or 5 comes first
+  whole-told : {h k : Header} → h ≡ k → told at o a b n ≡ unlessReserved (cidOf o a) a k → unlessReserved cid a h ≡ headerAt s at
+  whole-told same w = rw (r .cid-is, same) (sym (told-is ∙ w))
 
-    pub last-one : li o ≡ 0 → cases.unlessReserved cid a (Sub final-sub) ≡ headerAt s at
-    last-one final =
-        whole-told (ap Sub (final-is final)) (cases.last-whole at o a b n (omega (arith, r .way .behind, r .here)) final)
+  pub last-one : next ≤ length s → li o ≡ 0 → unlessReserved cid a (Sub final-sub) ≡ headerAt s at
+  last-one within final =
+      whole-told (ap Sub (final-is final)) (cases.last-whole at o a b n (omega (arith, r .way .behind, r .here)) final)
 
-    module _ (more : li o ≡ 0 → ⊥) (some : length s - next ≡ 0 → ⊥) where
-      whole : size o ≤ n
-      whole = omega (arith, r .way .behind, r .here, one more, some)
+  module _ (more : li o ≡ 0 → ⊥) (some : length s - next ≡ 0 → ⊥) where
+    whole : size o ≤ n
+    whole = omega (arith, r .way .behind, r .here, one more, some)
 
-      abbrev len : ℕ
-      len = getD s next 0
+    abbrev len : ℕ
+    len = getD s next 0
 
-      is : b ≡ len
-      is = length-octet (one more)
+    is : b ≡ len
+    is = length-octet (one more)
 
-      rest-is : n - size o ≡ length s - next - 1
-      rest-is = omega (arith, r .way .behind, one more)
+    rest-is : n - size o ≡ length s - next - 1
+    rest-is = omega (arith, r .way .behind, one more)
 
-      pub another : len < length s - next - 1 → cases.unlessReserved cid a (Sub more-sub) ≡ headerAt s at
-      another h =
-          whole-told (ap Sub (more-is more))
-          (cases.another-whole at o a b n whole more (omega (arith, is, rest-is)) (λ z. omega (arith, is, rest-is, z)))
+    pub another : len < length s - next - 1 → unlessReserved cid a (Sub more-sub) ≡ headerAt s at
+    another h =
+        whole-told (ap Sub (more-is more))
+        (cases.another-whole at o a b n whole more (omega (arith, is, rest-is)) (λ z. omega (arith, is, rest-is, z)))
 
-      pub past : length s - next - 1 < len → cases.unlessReserved cid a (Bad lengthPastField) ≡ headerAt s at
-      past h = whole-told refl (cases.past-whole at o a b n whole more (omega (arith, is, rest-is)))
+    pub past : length s - next - 1 < len → unlessReserved cid a (Bad lengthPastField) ≡ headerAt s at
+    past h = whole-told refl (cases.past-whole at o a b n whole more (omega (arith, is, rest-is)))
 
-      pub ends : len ≤ length s - next - 1 → length s - next - 1 ≤ len → cases.unlessReserved cid a (Bad lastWithLength) ≡ headerAt s at
-      ends h g = whole-told refl (cases.ends-whole at o a b n whole more (omega (arith, is, rest-is)) (omega (arith, is, rest-is)))
+    pub ends : len ≤ length s - next - 1 → length s - next - 1 ≤ len → unlessReserved cid a (Bad lastWithLength) ≡ headerAt s at
+    ends h g = whole-told refl (cases.ends-whole at o a b n whole more (omega (arith, is, rest-is)) (omega (arith, is, rest-is)))

@@ -1,11 +1,7 @@
 // The header of a sub-frame, read (document 01, "Frame and sub-frame" and refusals 3 to 7).
 ghost use mathlib.Core.Path.{_≡_};
-ghost use mathlib.Core.List.{[], _∷_};
-ghost use lib.Dec.{ltb};
-ghost use Rattle.refusal.specs.Numbers.{cidReserved, spareBitSet};
-ghost use Rattle.refusal.specs.Order.{_gives_, inOrder};
-ghost use Rattle.header.specs.declared.Header.the-variants.{Bad};
-ghost use Rattle.header.specs.Header.{spare, cidOf, headerAt, subAt};
+ghost use Rattle.header.specs.Header.{cidOf, headerAt, subAt};
+ghost use Rattle.header.specs.Private.{unlessReserved};
 
 // A sub-frame of a frame: its payload is the len octets of the frame from start on.
 pub struct SubFrame {
@@ -43,7 +39,7 @@ fn cid_of(octet1: u8, octet1a: u8) -> u8
 
 // What a header tells, unless a reserved CID or a spare bit refuses it.
 fn unless_reserved(cid: u8, octet1a: u8, told: Header) -> Header
-    ensures { λ r. ⌜ r ≡ inOrder (ltb cid 4 gives cidReserved ∷ ltb 0 (spare octet1a) gives spareBitSet ∷ []) Bad told ⌝ }
+    ensures { λ r. ⌜ r ≡ unlessReserved cid octet1a told ⌝ }
 {
     if cid < 4 {
         return Header::Bad(refusal::CID_RESERVED);

@@ -58,6 +58,7 @@ module _ (r : Record) (coding : ℕ) (body : List ℕ) (frame : isG7231 (r .synt
             tells r coding body
             (past there (past known (past unflagged (here (rw (frame, ne-eqb (length body) (g7231Octets (getD body 0 0)) h))))))
 
+-- the test for 13, the other way round
 turned : (same : Bool) → cond (not same) lengthWrong sound ≡ cond same sound lengthWrong
 turned true = refl
 turned false = refl

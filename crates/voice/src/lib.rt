@@ -64,7 +64,7 @@ fn g727_octets(coding: u8) -> usize
     octets::wide(G727_OCTETS[at])
 }
 
-// The refusal number of m blocks of so many octets each.
+// The refusal number of a body of `len` octets that is to be m blocks of so many octets each.
 fn length_refusal(m: u8, each: usize, len: usize) -> u8
     requires { ⌜ each ≤ 40 ⌝ }
     ensures { λ r. ⌜ r ≡ lengthNumber m each len ⌝ }
@@ -75,21 +75,21 @@ fn length_refusal(m: u8, each: usize, len: usize) -> u8
     refusal::LENGTH_WRONG
 }
 
-// The refusal number of blocks of acelp or g728, which have one coding type.
+// The same of acelp and of g728: blocks of ten octets, and one coding type.
 fn ten_refusal(m: u8, coding: u8, len: usize) -> u8
     ensures { λ r. ⌜ r ≡ blocksNumber Acelp m coding len ⌝ }
 {
-    if coding != 0 {
+    if coding_count(Syntax::Acelp) <= coding {
         return refusal::CODING_TYPE_UNKNOWN;
     }
     length_refusal(m, 10, len)
 }
 
-// The refusal number of blocks of pcm, and of g727.
+// The same of pcm, and of g727.
 fn pcm_refusal(m: u8, coding: u8, len: usize) -> u8
     ensures { λ r. ⌜ r ≡ blocksNumber Pcm m coding len ⌝ }
 {
-    if 14 <= coding {
+    if coding_count(Syntax::Pcm) <= coding {
         return refusal::CODING_TYPE_UNKNOWN;
     }
     length_refusal(m, pcm_octets(coding), len)
@@ -98,7 +98,7 @@ fn pcm_refusal(m: u8, coding: u8, len: usize) -> u8
 fn g727_refusal(m: u8, coding: u8, len: usize) -> u8
     ensures { λ r. ⌜ r ≡ blocksNumber G727 m coding len ⌝ }
 {
-    if 15 <= coding {
+    if coding_count(Syntax::G727) <= coding {
         return refusal::CODING_TYPE_UNKNOWN;
     }
     length_refusal(m, g727_octets(coding), len)

@@ -71,7 +71,7 @@ returns-3 c =
 returns-4 : tie.Need-returns-4
 returns-4 c =
     let d = c .before .before .before in
-    header.cut (begun d) (within (d .before .before)) (c .before .if4 .left) (c .if5 .taken)
+    header.cut (begun d) (c .before .if4 .left) (c .if5 .taken)
 
 shared-slice-read-len : tie.Need-shared-slice-read-len
 shared-slice-read-len c = search needs
@@ -93,7 +93,7 @@ returns-5 c =
     let e = c .before .before .before in
     let d = e .before .before .before in
     c .unless-reserved2 .ensures
-    ∙ header.another (begun d) (within (d .before .before)) (e .before .if4 .left) (e .if5 .left) (c .before .if6 .taken)
+    ∙ header.another (begun d) (e .before .if4 .left) (e .if5 .left) (c .before .if6 .taken)
 
 unless-reserved-requires-3 : tie.Need-unless-reserved-requires-3
 unless-reserved-requires-3 c κs = search needs
@@ -103,7 +103,7 @@ returns-6 c =
     let e = c .before .before .before .before in
     let d = e .before .before .before in
     c .unless-reserved3 .ensures
-    ∙ header.past (begun d) (within (d .before .before)) (e .before .if4 .left) (e .if5 .left) (c .before .if7 .taken)
+    ∙ header.past (begun d) (e .before .if4 .left) (e .if5 .left) (c .before .if7 .taken)
 
 unless-reserved-requires-4 : tie.Need-unless-reserved-requires-4
 unless-reserved-requires-4 c κs = search needs
@@ -113,7 +113,7 @@ returns-7 c =
     let e = c .before .before .before .before in
     let d = e .before .before .before in
     c .unless-reserved4 .ensures
-    ∙ header.ends (begun d) (within (d .before .before)) (e .before .if4 .left) (e .if5 .left) (c .before .if7 .left) (c .before .before .if6 .left)
+    ∙ header.ends (begun d) (e .before .if4 .left) (e .if5 .left) (c .before .if7 .left) (c .before .before .if6 .left)
 
 pub header-at-spec : {M : Type 1} → statement M
 header-at-spec =

@@ -1,4 +1,4 @@
--- `voice::body_refusal` meets its contract: each syntax has its own rule.
+-- `voice::body_refusal` meets its contract: one arm for each syntax.
 use mathlib.Core.Path.{refl, sym, _∙_}
 use borrow.Author.Needs.{needs}
 use Rattle.voice.specs.Voice.{blockOctets}
@@ -60,6 +60,7 @@ returns-3 c =
     let a = d .before .before .before .args in
     c .g727-refusal .ensures ∙ sym (cases.blocks-number (a .rec) (a .coding) (a .body .now) (d .enum-told3 .given .1) refl refl)
 
+-- g728 has the coding type and the octets of acelp
 returns-4 : tie.Need-returns-4
 unfolding blockOctets
 returns-4 c =

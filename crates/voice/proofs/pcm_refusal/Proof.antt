@@ -8,19 +8,23 @@ use Rattle.voice.proofs.VoiceCases as cases
 use Rattle.voice.proofs.pcm_refusal.Statement.{statement}
 use Rattle.voice.proofs.pcm_refusal.Tie as tie
 
+coding-count-requires : tie.Need-coding-count-requires
+coding-count-requires c κs = search needs
+
 returns : tie.Need-returns
-returns c = sym (cases.unknown-number Pcm _ _ _ (c .if1 .taken))
+returns c = sym (cases.unknown-number Pcm _ _ _ (rw (c .before .coding-count .ensures) at (c .if1 .taken)))
 
 pcm-octets-requires : tie.Need-pcm-octets-requires
-pcm-octets-requires c κs = search needs
+pcm-octets-requires c κs = rw (c .before .coding-count .ensures) at (c .if1 .left)
 
 length-refusal-requires : tie.Need-length-refusal-requires
-length-refusal-requires c κs = rw (c .pcm-octets .ensures) (entries 40 pcmOctets tt (c .before .before .args .coding))
+length-refusal-requires c κs = rw (c .pcm-octets .ensures) (entries 40 pcmOctets tt (c .before .before .before .args .coding))
 
 returns-2 : tie.Need-returns-2
 unfolding blockOctets
 returns-2 c =
-    c .length-refusal .ensures ∙ sym (cases.known-number Pcm _ _ _ (c .before .before .if1 .left) (c .before .pcm-octets .ensures))
+    let known = rw (c .before .before .before .coding-count .ensures) at (c .before .before .if1 .left) in
+    c .length-refusal .ensures ∙ sym (cases.known-number Pcm _ _ _ known (c .before .pcm-octets .ensures))
 
 pub pcm-refusal-spec : {M : Type 1} → statement M
-pcm-refusal-spec = tie.close (tie.spec returns pcm-octets-requires length-refusal-requires returns-2)
+pcm-refusal-spec = tie.close (tie.spec coding-count-requires returns pcm-octets-requires length-refusal-requires returns-2)
