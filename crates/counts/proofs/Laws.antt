@@ -52,6 +52,23 @@ module _ (k : ℕ) where
     λ e. sym (step-only 0 a b (ap (λ (n : ℕ). n % 2 ^ k) (zero-add a) ∙ e)) ∙ zero-mod (2 ^ k),
   )
 
+  adds : (c a b : ℕ) → onward k (onward k c a) b ≡ onward k c (a + b)
+  adds c a b =
+      let sum : c + a + b ≡ c + (a + b) = omega arith in
+      mod-add-mod (c + a) (2 ^ k) b ∙ ap (λ (n : ℕ). n % 2 ^ k) sum
+
+  -- the two steps together go from the first count to the third
+  joins : (a b c : ℕ) → (step k a b + step k b c) % 2 ^ k ≡ step k a c
+  joins a b c =
+      let m : ℕ = 2 ^ k in
+      let swap : step k a b + step k b c + a ≡ a + (step k a b + step k b c) = omega arith in
+      step-only (step k a b + step k b c) a c
+      (ap (λ (n : ℕ). n % m) swap
+      ∙ sym (adds a (step k a b) (step k b c))
+      ∙ ap (λ (n : ℕ). onward k n (step k b c)) (arrives a b)
+      ∙ mod-add-mod b m (step k b c)
+      ∙ arrives b c)
+
   pub laws : Laws k
   laws =
       record {
@@ -60,6 +77,9 @@ module _ (k : ℕ) where
         steps = steps;
         arrives = arrives;
         zero-when-equal = zero-when-equal;
+        adds = adds;
+        joins = joins;
+        arrives-there = λ a b less. arrives a b ∙ mod-eq-of-lt less;
       }
 
 pub digit-laws : Laws 8

@@ -1,0 +1,21 @@
+-- Worked examples, on the definitions: steps and goings on, worked by hand.
+use Prim.Native.Nat.{ℕ}
+use mathlib.Core.Path.{_≡_, refl}
+use mathlib.Core.List.{List, [], _∷_}
+use Rattle.counts.specs.Round.{onward, step}
+
+-- of three counts: the step from the first to the second, from there to the third, and from the first to the third
+abbrev steps : ℕ → ℕ → ℕ → ℕ → List ℕ
+steps k a b c = step k a b ∷ step k b c ∷ step k a c ∷ []
+
+-- Two steps that stay below the modulus together, that reach it and that pass it. A number beyond the width, 200 in 7 bits,
+-- counts as 72.
+pub steps-worked :
+    steps 4 14 1 9 ∷ steps 7 126 1 126 ∷ steps 4 9 3 1 ∷ steps 8 250 4 3 ∷ steps 13 8190 3 8191 ∷ steps 7 200 72 4 ∷ []
+    ≡ (3 ∷ 8 ∷ 11 ∷ []) ∷ (3 ∷ 125 ∷ 0 ∷ []) ∷ (10 ∷ 14 ∷ 8 ∷ []) ∷ (10 ∷ 255 ∷ 9 ∷ []) ∷ (5 ∷ 8188 ∷ 1 ∷ []) ∷ (0 ∷ 60 ∷ 60 ∷ []) ∷ []
+steps-worked = refl
+
+-- In 8 bits 250 on by 10 is 4, and 4 on by 255 is 3; so is 250 on by 265. In 7 bits 200 on by 60 is 4, since 260 is twice round;
+-- in 13 bits 8190 on by 5 is 3.
+pub on-worked : onward 8 250 10 ∷ onward 8 4 255 ∷ onward 8 250 265 ∷ onward 7 200 60 ∷ onward 13 8190 5 ∷ [] ≡ 4 ∷ 3 ∷ 3 ∷ 4 ∷ 3 ∷ []
+on-worked = refl
