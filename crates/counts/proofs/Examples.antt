@@ -2,7 +2,9 @@
 use Prim.Native.Nat.{ℕ}
 use mathlib.Core.Path.{_≡_, refl}
 use mathlib.Core.List.{List, [], _∷_}
+use native.Mathlib.Omega.{arith}
 use Rattle.counts.specs.Round.{onward, step}
+use Rattle.counts.proofs.Laws.{digit-laws, signalling-laws, voice-laws, data-laws}
 
 -- of three counts: the step from the first to the second, from there to the third, and from the first to the third
 abbrev steps : ℕ → ℕ → ℕ → ℕ → List ℕ
@@ -19,3 +21,16 @@ steps-worked = refl
 -- in 13 bits 8190 on by 5 is 3.
 pub on-worked : onward 8 250 10 ∷ onward 8 4 255 ∷ onward 8 250 265 ∷ onward 7 200 60 ∷ onward 13 8190 5 ∷ [] ≡ 4 ∷ 3 ∷ 3 ∷ 4 ∷ 3 ∷ []
 on-worked = refl
+
+-- The law of arriving asks for a count below the modulus. There are such counts at each of the four widths.
+pub arrived :
+    (onward 8 250 (step 8 250 4) ≡ 4)
+    × (onward 7 200 (step 7 200 4) ≡ 4)
+    × (onward 4 14 (step 4 14 9) ≡ 9)
+    × (onward 13 8190 (step 13 8190 3) ≡ 3)
+arrived = (
+  digit-laws .arrives-there 250 4 (omega arith),
+  signalling-laws .arrives-there 200 4 (omega arith),
+  voice-laws .arrives-there 14 9 (omega arith),
+  data-laws .arrives-there 8190 3 (omega arith),
+)
