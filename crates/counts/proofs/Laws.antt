@@ -93,3 +93,6 @@ voice-laws = laws 4
 
 pub data-laws : Laws 13
 data-laws = laws 13
+
+pub fax-laws : Laws 4
+fax-laws = laws 4

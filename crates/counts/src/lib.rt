@@ -1,5 +1,5 @@
-// The four counts of FRF.11 (document 01, "The digit count, the signalling count, the voice count and the data count"): a
-// type each, so that one never stands in for another. Each goes on by one and tells the step to another, round its width,
+// The counts of FRF.11 (document 01, "The digit count, the signalling count, the voice count and the data count"; document 02,
+// wish 1: the fax count): a type each, so that one never stands in for another. Each goes on by one and tells the step to another, round its width,
 // for every value that its type can hold.
 ghost use mathlib.Core.Path.{_≡_};
 ghost use Prim.Native.Nat.{_%_, _^_, _<_};
@@ -32,6 +32,9 @@ pub struct VoiceCount(pub u8);
 
 // The sequence of data payloads (Annex C), of 13 bits.
 pub struct DataCount(pub u16);
+
+// The sequence of fax payloads (Annex D), of 4 bits.
+pub struct FaxCount(pub u8);
 
 impl DigitCount {
     pub fn next(self) -> Self
@@ -86,5 +89,19 @@ impl DataCount {
         ensures { λ r. ⌜ r ≡ step 13 (self .0) (new .0) ⌝ }
     {
         step_round(self.0, new.0, 13)
+    }
+}
+
+impl FaxCount {
+    pub fn next(self) -> Self
+        ensures { λ r. ⌜ r .0 ≡ onward 4 (self .0) 1 ⌝ }
+    {
+        FaxCount(round(std::num::wrapping_add_u16(self.0 as u16, 1), 4) as u8)
+    }
+
+    pub fn step_to(self, new: FaxCount) -> u8
+        ensures { λ r. ⌜ r ≡ step 4 (self .0) (new .0) ⌝ }
+    {
+        step_round(self.0 as u16, new.0 as u16, 4) as u8
     }
 }

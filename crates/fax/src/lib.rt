@@ -232,7 +232,8 @@ fn ei1_for(stamp: Stamp) -> u8
     }
 }
 
-fn stamp_number(stamp: Stamp) -> u16
+// The time of a stamp; 0 where there is none.
+pub fn stamp_number(stamp: Stamp) -> u16
     ensures { λ r. ⌜ r ≡ stampNumber stamp ⌝ }
 {
     match stamp {
@@ -241,7 +242,8 @@ fn stamp_number(stamp: Stamp) -> u16
     }
 }
 
-fn code_of(command: Command) -> u8
+// A command's number in the first octet.
+pub fn code_of(command: Command) -> u8
     ensures { λ r. ⌜ (r ≡ codeOf command) × (r ≤ 4) ⌝ }
 {
     match command {

@@ -14,7 +14,7 @@ use Rattle.octets.specs.Text.{ascii}
 use Rattle.octets.proofs.Writes as writes
 use Rattle.printing.specs.Decimal.{decimal}
 use Rattle.printing.specs.Hex.{hexPair, hexOf}
-use Rattle.printing.specs.Field.{field, hexField}
+use Rattle.printing.specs.Field.{field, hexField, line}
 use Rattle.printing.specs.Refused.{refusedListing, textListing}
 use Rattle.printing.specs.Room.{fitting, Appended}
 use Rattle.printing.proofs.Spelling as spelling
@@ -183,6 +183,20 @@ unfolding hexField
 put-hex-field key octets room a b c =
     within (reads (then (then a b (omega arith)) c (omega arith)) (append-assoc key (hexOf octets) (10 ∷ []))) (length key + (2 * length octets + 1)) (omega arith)
 
+-- the same with a text
+pub line-size : (text : List ℕ) → length (line text) ≤ length text + 1
+unfolding line
+line-size text = simp length-append (omega arith)
+
+pub put-line :
+    (text : List ℕ) {out first after : List ℕ} {at end next : ℕ}
+    → at + (length text + 1) ≤ length out
+    → Appended out at text (length text) first end
+    → Appended first end (10 ∷ []) 1 after next
+    → Appended out at (line text) (length text + 1) after next
+unfolding line
+put-line text room a b = then a b room
+
 -- the lines of a refused frame, and of a refused text
 pub refused-size : (n number place : ℕ) → length (refusedListing n number place) ≤ 80
 unfolding refusedListing
@@ -215,6 +229,13 @@ module _ {before mid text : List ℕ} {at most next : ℕ} (first : Appended bef
       → Appended before at (text ++ hexField key octets) (most + (length key + (2 * length octets + 1))) after next2
   then-hex-field key octets room p =
       then-put first (length key + (2 * length octets + 1)) (hexField key octets) (hex-field-size key octets) room p
+
+  pub then-line :
+      (words : List ℕ) {after : List ℕ} {next2 : ℕ}
+      → at + (most + (length words + 1)) ≤ length before
+      → Put (length words + 1) mid next (line words) after next2
+      → Appended before at (text ++ line words) (most + (length words + 1)) after next2
+  then-line words room p = then-put first (length words + 1) (line words) (line-size words) room p
 
 -- the lines of a refused frame, where the room is there
 pub refused-stands :

@@ -1,4 +1,4 @@
--- A field on its line: its name with `=`, a number or octets, LF.
+-- A field on its line: its name with `=`, a number or octets, LF; and a line of another text.
 use Prim.Native.Nat.{ℕ}
 use mathlib.Core.List.{List, [], _∷_, _++_}
 use Rattle.octets.specs.Text.{lf}
@@ -12,3 +12,7 @@ field name n = name ++ (decimal n ++ lf ∷ [])
 -- octets in hex
 unfoldable pub hexField : List ℕ → List ℕ → List ℕ
 hexField name octets = name ++ (hexOf octets ++ lf ∷ [])
+
+-- a text
+unfoldable pub line : List ℕ → List ℕ
+line text = text ++ lf ∷ []
