@@ -6,7 +6,7 @@ use native.Mathlib.Nat.{add-assoc, zero-add}
 use native.Mathlib.Numerals.{add-one, add-two}
 use native.Mathlib.Omega.{arith}
 use borrow.Author.Tests.{lt-ltb, le-ltb}
-use lib.ListN.{length, getD, set, take, drop, length-append, length-drop, drop-of-length-le, take-append-drop}
+use lib.ListN.{length, getD, set, take, drop, replicate, length-append, length-drop, length-replicate, replicate-append-replicate, drop-of-length-le, take-append-drop}
 use lib.Seq.{sets-eq, paste, paste-suc, length-paste, take-all, take-at, drop-at, drop-drop, length-take-le}
 use Rattle.refusal.specs.Numbers.{roomTooSmall}
 use Rattle.octets.specs.declared.Put.{Put}
@@ -40,6 +40,12 @@ module _ (array₀ from array : List ℕ) (i : ℕ) (as-many : length array₀ �
       done array₀ from array 0 i (omega arith) within is all
       ∙ ap (λ (l : List ℕ). from ++ l) (drop-of-length-le array₀ none)
       ∙ append-nil from
+
+-- what is left of places of 0 behind the first k
+pub zeros-left : (k n m : ℕ) → k + n ≡ m → drop {A = ℕ} k (replicate m 0) ≡ replicate n 0
+zeros-left k n m e =
+    ap (drop k) (sym (replicate-append-replicate k n 0 ∙ ap (λ (x : ℕ). replicate x 0) e))
+    ∙ drop-at (replicate k 0) (replicate n 0) k (length-replicate k 0)
 
 -- nothing is written
 pub written-none : (room : List ℕ) (at : ℕ) → written room at [] ≡ room

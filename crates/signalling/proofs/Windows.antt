@@ -3,16 +3,11 @@ use Prim.Native.Nat.{ℕ, _+_, _-_, _≤_}
 use mathlib.Core.Path.{_≡_, sym, ap, _∙_}
 use mathlib.Core.List.{List, _++_, append-nil}
 use native.Mathlib.Omega.{arith}
-use lib.ListN.{length, take, drop, replicate, length-append, length-drop, length-replicate, replicate-append-replicate}
-use lib.Seq.{drop-at, take-all}
+use lib.ListN.{length, take, drop, replicate, length-append, length-drop}
+use lib.Seq.{take-all}
 use Rattle.octets.specs.declared.Put.{Put}
 use Rattle.octets.specs.Room.{put, leftBy}
 use Rattle.octets.proofs.Writes as writes
-
-zeros-left : (k n m : ℕ) → k + n ≡ m → drop {A = ℕ} k (replicate m 0) ≡ replicate n 0
-zeros-left k n m e =
-    ap (drop k) (sym (replicate-append-replicate k n 0 ∙ ap (λ (x : ℕ). replicate x 0) e))
-    ∙ drop-at (replicate k 0) (replicate n 0) k (length-replicate k 0)
 
 -- what the places hold after samples were put at their front
 abbrev Holds : List ℕ → List ℕ → Put → Type 0
@@ -22,7 +17,7 @@ at-front : (samples holds : List ℕ) (answer : Put) (n : ℕ) → length sample
 at-front samples holds answer n sum (put-there, is) =
     is
     ∙ ap (λ (x : Put). leftBy x (replicate 30 0) 0 samples) (put-there ∙ sym (writes.room-for (replicate 30 0) samples 0 (omega arith)))
-    ∙ ap (λ (l : List ℕ). samples ++ l) (zeros-left (0 + length samples) n 30 (omega arith))
+    ∙ ap (λ (l : List ℕ). samples ++ l) (writes.zeros-left (0 + length samples) n 30 (omega arith))
 
 -- thirty samples from a place on
 module _ (from : ℕ) (samples : List ℕ) (thirty : 30 ≡ length samples) (within : from ≤ 30) (holds : List ℕ) (answer : Put) where
