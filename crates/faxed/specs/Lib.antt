@@ -1,0 +1,5 @@
+pub mod Events
+pub mod Run
+pub mod Complete
+pub mod Pages
+pub mod Examples
