@@ -6,6 +6,7 @@ use mathlib.Core.Bool.{Bool, true, false, cond}
 use lib.Dec.{ltb}
 use lib.IntN.{ℤ}
 use Rattle.refusal.specs.Order.{_or_}
+use Rattle.octets.proofs.Order.{picked}
 use Rattle.levels.specs.Level.{codeOf}
 use Rattle.digits.specs.declared.layout.Window.{Window}
 use Rattle.digits.specs.Layout.{windowWrong, levelLow}
@@ -31,10 +32,6 @@ next-tail false true b c = refl
 next-tail false false true c = refl
 next-tail false false false true = refl
 next-tail false false false false = refl
-
-picked : (P : Taken → Type 0) (b : Bool) (x y : Taken) → (b ≡ true → P x) → (b ≡ false → P y) → P (cond b x y)
-picked P true x y px py = px refl
-picked P false x y px py = py refl
 
 -- a sender whose tail tells this, and what it makes of more entries
 module _ (es : List Entry) (goes : (s : Sender) (a b c : Bool) → s .tail ≡ tailOf a b c → sentPeriods s es ≡ nearLoud a b c (loudPeriods s es))

@@ -1,3 +1,4 @@
 pub mod Handed
 pub mod Taken
+pub mod Refused
 pub mod Examples

@@ -1,3 +1,4 @@
 pub mod Replay
 pub mod Private
+pub mod Claims
 pub mod Examples

@@ -31,6 +31,11 @@ pub either : {A : Type 0} {t : Bool} → (t ≡ true → A) → (t ≡ false →
 either f g true e = f e
 either f g false e = g e
 
+-- what either way of a test gives
+pub picked : {A : Type 0} (P : A → Type 0) (b : Bool) (x y : A) → (b ≡ true → P x) → (b ≡ false → P y) → P (cond b x y)
+picked P true x y px py = px refl
+picked P false x y px py = py refl
+
 -- one of two tests: the first holds; the first does not, and the second tells; neither holds
 pub or-first : (t u : Bool) → t ≡ true → true ≡ t or u
 or-first true u e = refl

@@ -15,6 +15,7 @@ use Rattle.sid.specs.declared.SidRead.the-variants.{Silence, BadSid}
 use Rattle.voice.specs.Voice.{readRefusals, voiceRead}
 use Rattle.sid.specs.Sid.{sidRead}
 use Rattle.refusal.proofs.Order as order
+use Rattle.octets.proofs.Order.{picked}
 use Rattle.data.specs.declared.DataRead.{DataRead}
 use Rattle.data.specs.declared.DataRead.the-variants.{Fragment, BadData}
 use Rattle.data.specs.Data.{dataRead}
@@ -31,19 +32,23 @@ use Rattle.dialled.specs.Receiver as dialled
 use Rattle.seized.specs.declared.Receiver as seized-receiver
 use Rattle.seized.specs.declared.Received as signalling
 use Rattle.seized.specs.Receiver as seized
+use Rattle.faxing.specs.declared.Receiver as fax-receiver
+use Rattle.faxing.specs.declared.Received as fax
+use Rattle.faxing.specs.Replay as faxing
+use Rattle.faxing.proofs.Refused.{refused-stands as fax-refused-stands}
 use Rattle.payload.specs.declared.layout.Layout.{Layout}
 use Rattle.payload.specs.declared.layout.Layout.the-variants.{OfVoice, OfDigits, OfSignalling, OfFax, OfSid, OfData, NoLayout}
 use Rattle.payload.specs.Layout.{layoutOf}
 use Rattle.payload.specs.Content.{Reading, readAs, numberOf, ofVoice, ofDigits, ofSignalling, ofFax, ofSid, ofData}
 use Rattle.trunk.specs.declared.Trunk.{Trunk}
 use Rattle.trunk.specs.declared.Told.{Told}
-use Rattle.trunk.specs.Trunk.{refusing, voiceTaken, dialledTo, seizedTo, faxTaken, sidTaken, dataTaken, takenAs, taken}
-use Rattle.trunk.proofs.Cases.{as-layout, picked}
-use Rattle.trunk.specs.Claims.{NumberIsReadings, RefusedStands, Leaves}
+use Rattle.trunk.specs.Trunk.{refusing, voiceTaken, dialledTo, seizedTo, faxedTo, sidTaken, dataTaken, takenAs, taken}
+use Rattle.trunk.proofs.Cases.{as-layout}
+use Rattle.trunk.specs.Claims.{NumberIsReadings, NumberOfFax, ReadingRefuses, RefusedStands, Leaves}
 
 -- the trunk after each kind of payload
 abbrev Ends : Trunk → VoiceRead → Type 0
-Ends t read = voiceTaken t read .number ≡ sound → voiceTaken t read .trunk ≡ record { digits = dialled.voiceHeard (t .digits); signalling = t .signalling }
+Ends t read = voiceTaken t read .number ≡ sound → voiceTaken t read .trunk ≡ record { digits = dialled.voiceHeard (t .digits); signalling = t .signalling; fax = t .fax }
 
 -- by the number of a voice payload, which no refusal has as 0
 voice-leaves : (t : Trunk) (r : Record) (p : List ℕ) → Ends t (voiceRead r p)
@@ -56,32 +61,35 @@ untoned : (r : dialled-receiver.Receiver) → r .on ≡ false → r .code ≡ 0 
 untoned r off none = sym (ap₂ (λ (on : Bool) (code : ℕ). record { heard = r .heard; last = r .last; on = on; code = code }) off none)
 
 voice-untoned : (t : Trunk) (read : VoiceRead) → t .digits .on ≡ false → t .digits .code ≡ 0 → voiceTaken t read .trunk ≡ t
-voice-untoned t (Voice sequence coding front) off none = ap (λ (r : dialled-receiver.Receiver). record { digits = r; signalling = t .signalling }) (untoned (t .digits) off none)
+voice-untoned t (Voice sequence coding front) off none = ap (λ (r : dialled-receiver.Receiver). record { digits = r; signalling = t .signalling; fax = t .fax }) (untoned (t .digits) off none)
 voice-untoned t (BadVoice number) off none = refl
 
-digits-leave : (t : Trunk) (read : DigitsRead) → dialledTo t (dialled.receivedBy (t .digits) read) .trunk ≡ record { digits = dialled.receivedBy (t .digits) read .receiver; signalling = t .signalling }
+digits-leave : (t : Trunk) (read : DigitsRead) → dialledTo t (dialled.receivedBy (t .digits) read) .trunk ≡ record { digits = dialled.receivedBy (t .digits) read .receiver; signalling = t .signalling; fax = t .fax }
 digits-leave t (Dialled d) = refl
 digits-leave t (BadDigits n) = picked (λ (x : Told). x .trunk ≡ t) (eqb n sound) _ _ (λ h. refl) (λ h. refl)
 
-digit-trunk : (t : Trunk) (p : List ℕ) → takenAs OfDigits t p .trunk ≡ record { digits = dialled.received (t .digits) p .receiver; signalling = t .signalling }
+digit-trunk : (t : Trunk) (p : List ℕ) → takenAs OfDigits t p .trunk ≡ record { digits = dialled.received (t .digits) p .receiver; signalling = t .signalling; fax = t .fax }
 unfolding dialled.received
 digit-trunk t p = digits-leave t (digitsRead p)
 
 passed-over-leaves : (t : Trunk) (n : ℕ) → seizedTo t (seized.passedOver (t .signalling) n) .trunk ≡ t
 passed-over-leaves t n = picked (λ (x : Told). x .trunk ≡ t) (eqb n sound) _ _ (λ h. refl) (λ h. refl)
 
-signalling-trunk : (t : Trunk) (p : List ℕ) → takenAs OfSignalling t p .trunk ≡ record { digits = t .digits; signalling = seized.received (t .signalling) p .receiver }
+signalling-trunk : (t : Trunk) (p : List ℕ) → takenAs OfSignalling t p .trunk ≡ record { digits = t .digits; signalling = seized.received (t .signalling) p .receiver; fax = t .fax }
 unfolding seized.received
 signalling-trunk t p =
-    picked (λ (got : signalling.Received). seizedTo t got .trunk ≡ record { digits = t .digits; signalling = got .receiver }) (eqb (signallingRead p .number) sound)
+    picked (λ (got : signalling.Received). seizedTo t got .trunk ≡ record { digits = t .digits; signalling = got .receiver; fax = t .fax }) (eqb (signallingRead p .number) sound)
     (seized.appended (t .signalling) (signallingRead p .signalling) (seized.stepFrom (t .signalling) (signallingRead p .signalling .sequence)))
     (seized.passedOver (t .signalling) (signallingRead p .number))
     (λ h. refl)
     (λ h. passed-over-leaves t (signallingRead p .number))
 
-fax-leaves : (t : Trunk) (read : FaxRead) → faxTaken t read .trunk ≡ t
-fax-leaves t (Fax sequence stamp command front) = refl
-fax-leaves t (BadFax number) = refl
+fax-trunk : (t : Trunk) (p : List ℕ) → takenAs OfFax t p .trunk ≡ record { digits = t .digits; signalling = t .signalling; fax = faxing.received (t .fax) p .receiver }
+fax-trunk t p =
+    let got : fax.Received = faxing.received (t .fax) p in
+    picked (λ (x : Told). x .trunk ≡ record { digits = t .digits; signalling = t .signalling; fax = got .receiver }) (eqb (got .number) sound) _ _ (λ h. refl)
+    (λ h. ap (λ (r : fax-receiver.Receiver). record { digits = t .digits; signalling = t .signalling; fax = r })
+    (sym (ap (λ (a : fax.Received). a .receiver) (fax-refused-stands (t .fax) p (eqb-false (got .number) sound h)))))
 
 silence-leaves : (t : Trunk) (read : SidRead) → sidTaken t read .trunk ≡ t
 silence-leaves t (Silence sid) = refl
@@ -100,6 +108,10 @@ seized-number : (t : Trunk) (got : signalling.Received) → seizedTo t got .numb
 seized-number t got =
     picked (λ (x : Told). x .number ≡ got .number) (eqb (got .number) sound) _ _ (λ h. sym (eqb-true (got .number) sound h)) (λ h. refl)
 
+faxed-number : (t : Trunk) (got : fax.Received) → faxedTo t got .number ≡ got .number
+faxed-number t got =
+    picked (λ (x : Told). x .number ≡ got .number) (eqb (got .number) sound) _ _ (λ h. sym (eqb-true (got .number) sound h)) (λ h. refl)
+
 digits-number : (r : dialled-receiver.Receiver) (read : DigitsRead) → dialled.receivedBy r read .number ≡ numberOf (ofDigits read)
 digits-number r (Dialled d) = refl
 digits-number r (BadDigits number) = refl
@@ -116,7 +128,17 @@ signalling-number : (r : seized-receiver.Receiver) (p : List ℕ) → seized.rec
 unfolding seized.received
 signalling-number r p = both-ways (eqb (signallingRead p .number) sound) _ _ _ _ refl refl
 
-number-as : (l : Layout) (t : Trunk) (p : List ℕ) → takenAs l t p .number ≡ numberOf (readAs l p)
+-- the number under a layout: that of reading, or under fax that of the replay
+abbrev numberAs : Layout → Trunk → List ℕ → ℕ
+numberAs (OfVoice r) t p = numberOf (readAs (OfVoice r) p)
+numberAs OfDigits t p = numberOf (readAs OfDigits p)
+numberAs OfSignalling t p = numberOf (readAs OfSignalling p)
+numberAs OfFax t p = faxing.received (t .fax) p .number
+numberAs (OfSid syntax) t p = numberOf (readAs (OfSid syntax) p)
+numberAs OfData t p = numberOf (readAs OfData p)
+numberAs (NoLayout number) t p = number
+
+number-as : (l : Layout) (t : Trunk) (p : List ℕ) → takenAs l t p .number ≡ numberAs l t p
 number-as (OfVoice r) t p = number (voiceRead r p)
   where
     number : (read : VoiceRead) → voiceTaken t read .number ≡ numberOf (ofVoice p read)
@@ -124,11 +146,7 @@ number-as (OfVoice r) t p = number (voiceRead r p)
     number (BadVoice n) = refl
 number-as OfDigits t p = dialled-number t (dialled.received (t .digits) p) ∙ received-number (t .digits) p
 number-as OfSignalling t p = seized-number t (seized.received (t .signalling) p) ∙ signalling-number (t .signalling) p
-number-as OfFax t p = number (faxRead p)
-  where
-    number : (read : FaxRead) → faxTaken t read .number ≡ numberOf (ofFax p read)
-    number (Fax sequence stamp command front) = refl
-    number (BadFax n) = refl
+number-as OfFax t p = faxed-number t (faxing.received (t .fax) p)
 number-as (OfSid syntax) t p = number (sidRead syntax p)
   where
     number : (read : SidRead) → sidTaken t read .number ≡ numberOf (ofSid read)
@@ -141,9 +159,44 @@ number-as OfData t p = number (dataRead p)
     number (BadData n) = refl
 number-as (NoLayout n) t p = refl
 
+readings : (l : Layout) (t : Trunk) (p : List ℕ) → (l ≡ OfFax → ⊥) → numberAs l t p ≡ numberOf (readAs l p)
+readings (OfVoice r) t p other = refl
+readings OfDigits t p other = refl
+readings OfSignalling t p other = refl
+readings OfFax t p other = absurd (other refl)
+readings (OfSid syntax) t p other = refl
+readings OfData t p other = refl
+readings (NoLayout n) t p other = refl
+
+-- what reading refuses of fax, the replay refuses
+fax-read-refused : (r : fax-receiver.Receiver) (p : List ℕ) (read : FaxRead) → (numberOf (ofFax p read) ≡ sound → ⊥) → faxing.receivedBy r p read .number ≡ numberOf (ofFax p read)
+fax-read-refused r p (Fax sequence stamp command front) h = absurd (h refl)
+fax-read-refused r p (BadFax n) h = refl
+
+refused-first : (l : Layout) (t : Trunk) (p : List ℕ) → (numberOf (readAs l p) ≡ sound → ⊥) → numberAs l t p ≡ numberOf (readAs l p)
+unfolding faxing.received
+refused-first (OfVoice r) t p h = refl
+refused-first OfDigits t p h = refl
+refused-first OfSignalling t p h = refl
+refused-first OfFax t p h = fax-read-refused (t .fax) p (faxRead p) h
+refused-first (OfSid syntax) t p h = refl
+refused-first OfData t p h = refl
+refused-first (NoLayout n) t p h = refl
+
 pub number-is-readings : NumberIsReadings
 unfolding taken
-number-is-readings t found ptype p = number-as (layoutOf found ptype) t p
+number-is-readings t found ptype p other =
+    number-as (layoutOf found ptype) t p ∙ readings (layoutOf found ptype) t p other
+
+pub number-of-fax : NumberOfFax
+unfolding taken
+number-of-fax t found ptype p e =
+    number-as (layoutOf found ptype) t p ∙ ap (λ (l : Layout). numberAs l t p) e
+
+pub reading-refuses : ReadingRefuses
+unfolding taken
+reading-refuses t found ptype p h =
+    number-as (layoutOf found ptype) t p ∙ refused-first (layoutOf found ptype) t p h
 
 -- a refusal, or a number that is none
 abbrev Stood : Trunk → Told → Type 0
@@ -157,11 +210,7 @@ stood-as (OfVoice r) t p = stood (voiceRead r p)
     stood (BadVoice n) h = refl
 stood-as OfDigits t p = picked (Stood t) (eqb (dialled.received (t .digits) p .number) sound) _ _ (λ e h. absurd (h refl)) (λ e h. refl)
 stood-as OfSignalling t p = picked (Stood t) (eqb (seized.received (t .signalling) p .number) sound) _ _ (λ e h. absurd (h refl)) (λ e h. refl)
-stood-as OfFax t p = stood (faxRead p)
-  where
-    stood : (read : FaxRead) → Stood t (faxTaken t read)
-    stood (Fax sequence stamp command front) h = absurd (h refl)
-    stood (BadFax n) h = refl
+stood-as OfFax t p = picked (Stood t) (eqb (faxing.received (t .fax) p .number) sound) _ _ (λ e h. absurd (h refl)) (λ e h. refl)
 stood-as (OfSid syntax) t p = stood (sidRead syntax p)
   where
     stood : (read : SidRead) → Stood t (sidTaken t read)
@@ -187,7 +236,7 @@ leaves =
     record {
       refused = λ t found ptype p h. ap (λ (x : Told). x .trunk) (refused-stands t found ptype p h);
       silence = λ t found ptype p s e. trunk-as t found ptype p e ∙ silence-leaves t (sidRead s p);
-      fax = λ t found ptype p e. trunk-as t found ptype p e ∙ fax-leaves t (faxRead p);
+      fax = λ t found ptype p e. trunk-as t found ptype p e ∙ fax-trunk t p;
       fragments = λ t found ptype p e. trunk-as t found ptype p e ∙ data-leaves t (dataRead p);
       digits = λ t found ptype p e. trunk-as t found ptype p e ∙ digit-trunk t p;
       signalling = λ t found ptype p e. trunk-as t found ptype p e ∙ signalling-trunk t p;

@@ -9,15 +9,32 @@ use Rattle.record.specs.declared.syntax.Syntax.{Syntax}
 use Rattle.record.specs.declared.table.Found.{Found}
 use Rattle.dialled.specs.Receiver as dialled
 use Rattle.seized.specs.Receiver as seized
+use Rattle.faxing.specs.Replay as faxing
 use Rattle.payload.specs.declared.layout.Layout.the-variants.{OfVoice, OfDigits, OfSignalling, OfFax, OfSid, OfData}
 use Rattle.payload.specs.Content.{payloadRead, numberOf}
 use Rattle.payload.specs.Layout.{layoutOf}
 use Rattle.trunk.specs.declared.Trunk.{Trunk}
 use Rattle.trunk.specs.Trunk.{taken, refusing}
 
--- The number is that of reading the payload; and a refused payload changes nothing and appends nothing.
+-- The number is that of reading the payload, or of the fax replay under the layout of fax; what reading refuses is refused with its
+-- number under every layout; and a refused payload changes nothing and appends nothing.
 abbrev pub NumberIsReadings : Type 0
-NumberIsReadings = (t : Trunk) (found : Found) (ptype : ℕ) (p : List ℕ) → taken t found ptype p .number ≡ numberOf (payloadRead found ptype p)
+NumberIsReadings =
+    (t : Trunk) (found : Found) (ptype : ℕ) (p : List ℕ)
+    → (layoutOf found ptype ≡ OfFax → ⊥)
+    → taken t found ptype p .number ≡ numberOf (payloadRead found ptype p)
+
+abbrev pub NumberOfFax : Type 0
+NumberOfFax =
+    (t : Trunk) (found : Found) (ptype : ℕ) (p : List ℕ)
+    → layoutOf found ptype ≡ OfFax
+    → taken t found ptype p .number ≡ faxing.received (t .fax) p .number
+
+abbrev pub ReadingRefuses : Type 0
+ReadingRefuses =
+    (t : Trunk) (found : Found) (ptype : ℕ) (p : List ℕ)
+    → (numberOf (payloadRead found ptype p) ≡ sound → ⊥)
+    → taken t found ptype p .number ≡ numberOf (payloadRead found ptype p)
 
 abbrev pub RefusedStands : Type 0
 RefusedStands =
@@ -29,15 +46,16 @@ RefusedStands =
 pub record Leaves : Type 0 where
   -- a refused payload leaves the whole trunk, whatever its kind
   pub refused : (t : Trunk) (found : Found) (ptype : ℕ) (p : List ℕ) → (taken t found ptype p .number ≡ sound → ⊥) → taken t found ptype p .trunk ≡ t
-  -- a silence descriptor, fax and data leave the whole trunk
+  -- a silence descriptor and data leave the whole trunk
   pub silence : (t : Trunk) (found : Found) (ptype : ℕ) (p : List ℕ) (s : Syntax) → layoutOf found ptype ≡ OfSid s → taken t found ptype p .trunk ≡ t
-  pub fax : (t : Trunk) (found : Found) (ptype : ℕ) (p : List ℕ) → layoutOf found ptype ≡ OfFax → taken t found ptype p .trunk ≡ t
   pub fragments : (t : Trunk) (found : Found) (ptype : ℕ) (p : List ℕ) → layoutOf found ptype ≡ OfData → taken t found ptype p .trunk ≡ t
-  -- a digits payload leaves the signalling receiver, and the digit receiver is then as after `received`
-  pub digits : (t : Trunk) (found : Found) (ptype : ℕ) (p : List ℕ) → layoutOf found ptype ≡ OfDigits → taken t found ptype p .trunk ≡ record { digits = dialled.received (t .digits) p .receiver; signalling = t .signalling }
-  -- a signalling payload leaves the digit receiver, and the signalling receiver is then as after `received`
-  pub signalling : (t : Trunk) (found : Found) (ptype : ℕ) (p : List ℕ) → layoutOf found ptype ≡ OfSignalling → taken t found ptype p .trunk ≡ record { digits = t .digits; signalling = seized.received (t .signalling) p .receiver }
-  -- accepted voice leaves the signalling receiver, and of the digit receiver all but the tone: that is then off
-  pub voice : (t : Trunk) (found : Found) (ptype : ℕ) (p : List ℕ) (r : Record) → layoutOf found ptype ≡ OfVoice r → taken t found ptype p .number ≡ sound → taken t found ptype p .trunk ≡ record { digits = record { heard = t .digits .heard; last = t .digits .last; on = false; code = 0 }; signalling = t .signalling }
+  -- a digits payload leaves the signalling receiver and the fax replay, and the digit receiver is then as after `received`
+  pub digits : (t : Trunk) (found : Found) (ptype : ℕ) (p : List ℕ) → layoutOf found ptype ≡ OfDigits → taken t found ptype p .trunk ≡ record { digits = dialled.received (t .digits) p .receiver; signalling = t .signalling; fax = t .fax }
+  -- a signalling payload leaves the digit receiver and the fax replay, and the signalling receiver is then as after `received`
+  pub signalling : (t : Trunk) (found : Found) (ptype : ℕ) (p : List ℕ) → layoutOf found ptype ≡ OfSignalling → taken t found ptype p .trunk ≡ record { digits = t .digits; signalling = seized.received (t .signalling) p .receiver; fax = t .fax }
+  -- a fax payload leaves the digit receiver and the signalling receiver, and the fax replay is then as after `received`
+  pub fax : (t : Trunk) (found : Found) (ptype : ℕ) (p : List ℕ) → layoutOf found ptype ≡ OfFax → taken t found ptype p .trunk ≡ record { digits = t .digits; signalling = t .signalling; fax = faxing.received (t .fax) p .receiver }
+  -- accepted voice leaves the signalling receiver and the fax replay, and of the digit receiver all but the tone: that is then off
+  pub voice : (t : Trunk) (found : Found) (ptype : ℕ) (p : List ℕ) (r : Record) → layoutOf found ptype ≡ OfVoice r → taken t found ptype p .number ≡ sound → taken t found ptype p .trunk ≡ record { digits = record { heard = t .digits .heard; last = t .digits .last; on = false; code = 0 }; signalling = t .signalling; fax = t .fax }
   -- where no tone sounds and its code is 0, as every payload leaves it, voice leaves the whole trunk
   pub voice-untoned : (t : Trunk) (found : Found) (ptype : ℕ) (p : List ℕ) (r : Record) → layoutOf found ptype ≡ OfVoice r → t .digits .on ≡ false → t .digits .code ≡ 0 → taken t found ptype p .trunk ≡ t

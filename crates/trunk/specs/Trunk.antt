@@ -1,8 +1,8 @@
--- One sub-channel at the far end (document 01, "Payload types" and "Receivers"): what a payload of a type brings about, by what is
+-- One sub-channel at the far end (document 01, "Payload types" and "Receivers"; document 02, wish 1): what a payload of a type brings about, by what is
 -- provisioned on the sub-channel. The layout names the receiver; a refusal hands the trunk back unchanged.
 use Prim.Native.Nat.{ℕ}
 use mathlib.Core.List.{List, [], _∷_}
-use mathlib.Core.Bool.{cond}
+use mathlib.Core.Bool.{false, cond}
 use lib.Dec.{eqb}
 use lib.ListN.{replicate}
 use Rattle.refusal.specs.Numbers.{sound}
@@ -16,14 +16,14 @@ use Rattle.sid.specs.Sid.{sidRead}
 use Rattle.data.specs.declared.DataRead.{DataRead}
 use Rattle.data.specs.declared.DataRead.the-variants.{Fragment, BadData}
 use Rattle.data.specs.Data.{dataRead}
-use Rattle.fax.specs.declared.FaxRead.{FaxRead}
-use Rattle.fax.specs.declared.FaxRead.the-variants.{Fax, BadFax}
-use Rattle.fax.specs.Fax.{faxRead}
 use Rattle.digits.specs.Layout.{offWindow}
 use Rattle.dialled.specs.declared.Received as digits
 use Rattle.dialled.specs.Receiver as dialled
 use Rattle.seized.specs.declared.Received as signalling
 use Rattle.seized.specs.Receiver as seized
+use Rattle.faxing.specs.declared.Did.the-variants.{Nothing}
+use Rattle.faxing.specs.declared.Received as fax
+use Rattle.faxing.specs.Replay as faxing
 use Rattle.payload.specs.declared.layout.Layout.{Layout}
 use Rattle.payload.specs.declared.layout.Layout.the-variants.{OfVoice, OfDigits, OfSignalling, OfFax, OfSid, OfData, NoLayout}
 use Rattle.payload.specs.Layout.{layoutOf}
@@ -32,11 +32,13 @@ use Rattle.trunk.specs.declared.Heard.{Heard}
 use Rattle.trunk.specs.declared.Heard.the-variants.{HeardNothing, HeardVoice, HeardSilence, HeardDigits, HeardSignalling, HeardData, HeardFax}
 use Rattle.trunk.specs.declared.Dialled.{Dialled}
 use Rattle.trunk.specs.declared.Seized.{Seized}
+use Rattle.trunk.specs.declared.Faxed.{Faxed}
 use Rattle.trunk.specs.declared.Told.{Told}
 
--- both receivers as they are before anything has come
+-- the receivers as they are before anything has come
 abbrev pub freshTrunk : Trunk
-freshTrunk = record { digits = dialled.freshReceiver; signalling = seized.freshReceiver }
+freshTrunk =
+    record { digits = dialled.freshReceiver; signalling = seized.freshReceiver; fax = faxing.freshReceiver }
 
 -- what a receiver appends to which nothing has come: "unused places off or 0"
 abbrev pub nothingDialled : Dialled
@@ -45,19 +47,37 @@ nothingDialled = record { fills = 0; fill = offWindow; carried = 0; periods = of
 abbrev pub nothingSeized : Seized
 nothingSeized = record { fills = 0; fill = 0; carried = 0; periods = replicate 30 0 }
 
+abbrev pub nothingFaxed : Faxed
+nothingFaxed = record { gap = false; count = 0; octets = replicate 72 0; did = Nothing }
+
 -- "A refusal returns its number only .., and all .. state stand as at entry."
 abbrev pub refusing : Trunk → ℕ → Told
 refusing t number =
-    record { number = number; heard = HeardNothing; dialled = nothingDialled; seized = nothingSeized; trunk = t }
+    record {
+      number = number;
+      heard = HeardNothing;
+      dialled = nothingDialled;
+      seized = nothingSeized;
+      faxed = nothingFaxed;
+      trunk = t;
+    }
 
 -- a payload that is taken and appends nothing
 abbrev pub passing : Trunk → Heard → Told
-passing t heard = record { number = sound; heard = heard; dialled = nothingDialled; seized = nothingSeized; trunk = t }
+passing t heard =
+    record {
+      number = sound;
+      heard = heard;
+      dialled = nothingDialled;
+      seized = nothingSeized;
+      faxed = nothingFaxed;
+      trunk = t;
+    }
 
 -- "An accepted type 0 voice payload ends a sounding tone".
 abbrev pub voiceTaken : Trunk → VoiceRead → Told
 voiceTaken t (Voice sequence coding front) =
-    passing (record { digits = dialled.voiceHeard (t .digits); signalling = t .signalling }) HeardVoice
+    passing (record { digits = dialled.voiceHeard (t .digits); signalling = t .signalling; fax = t .fax }) HeardVoice
 voiceTaken t (BadVoice number) = refusing t number
 
 -- a digits payload, by what the digit receiver answers
@@ -69,7 +89,8 @@ dialledTo t got =
       heard = HeardDigits;
       dialled = record { fills = got .fills; fill = got .fill; carried = got .carried; periods = got .periods };
       seized = nothingSeized;
-      trunk = record { digits = got .receiver; signalling = t .signalling };
+      faxed = nothingFaxed;
+      trunk = record { digits = got .receiver; signalling = t .signalling; fax = t .fax };
     })
     (refusing t (got .number))
 
@@ -85,18 +106,32 @@ seizedTo t got =
       heard = HeardSignalling;
       dialled = nothingDialled;
       seized = record { fills = got .fills; fill = got .fill; carried = got .carried; periods = got .periods };
-      trunk = record { digits = t .digits; signalling = got .receiver };
+      faxed = nothingFaxed;
+      trunk = record { digits = t .digits; signalling = got .receiver; fax = t .fax };
     })
     (refusing t (got .number))
 
 abbrev pub signallingTaken : Trunk → List ℕ → Told
 signallingTaken t payload = seizedTo t (seized.received (t .signalling) payload)
 
--- fax, silence and data
-abbrev pub faxTaken : Trunk → FaxRead → Told
-faxTaken t (Fax sequence stamp command front) = passing t HeardFax
-faxTaken t (BadFax number) = refusing t number
+-- a fax payload, by what the fax replay answers: what reading refuses, then 41, then 42
+abbrev pub faxedTo : Trunk → fax.Received → Told
+faxedTo t got =
+    cond (eqb (got .number) sound)
+    (record {
+      number = sound;
+      heard = HeardFax;
+      dialled = nothingDialled;
+      seized = nothingSeized;
+      faxed = record { gap = got .gap; count = got .count; octets = got .octets; did = got .did };
+      trunk = record { digits = t .digits; signalling = t .signalling; fax = got .receiver };
+    })
+    (refusing t (got .number))
 
+abbrev pub faxTaken : Trunk → List ℕ → Told
+faxTaken t payload = faxedTo t (faxing.received (t .fax) payload)
+
+-- silence and data
 abbrev pub sidTaken : Trunk → SidRead → Told
 sidTaken t (Silence sid) = passing t HeardSilence
 sidTaken t (BadSid number) = refusing t number
@@ -110,7 +145,7 @@ abbrev pub takenAs : Layout → Trunk → List ℕ → Told
 takenAs (OfVoice r) t payload = voiceTaken t (voiceRead r payload)
 takenAs OfDigits t payload = digitsTaken t payload
 takenAs OfSignalling t payload = signallingTaken t payload
-takenAs OfFax t payload = faxTaken t (faxRead payload)
+takenAs OfFax t payload = faxTaken t payload
 takenAs (OfSid syntax) t payload = sidTaken t (sidRead syntax payload)
 takenAs OfData t payload = dataTaken t (dataRead payload)
 takenAs (NoLayout number) t payload = refusing t number

@@ -1,9 +1,9 @@
-// One sub-channel at the far end (document 01, "Payload types" and "Receivers"). Its payloads, each with its type, go to the
-// receivers that their layouts name, by what is provisioned on the sub-channel. 11 to 16 come from here: no caller is expected to
-// have looked first.
+// One sub-channel at the far end (document 01, "Payload types" and "Receivers"; document 02, wish 1). Its payloads, each with its
+// type, go to the receivers that their layouts name, by what is provisioned on the sub-channel. 11 to 16 come from here, and 41 and
+// 42 of fax: no caller is expected to have looked first.
 use data::DataRead;
 use digits::layout::Window;
-use fax::FaxRead;
+use faxing::Did;
 use payload::layout::Layout;
 use record::syntax::Record;
 use record::syntax::Syntax;
@@ -11,9 +11,8 @@ use record::table::Found;
 use sid::SidRead;
 use voice::VoiceRead;
 ghost use mathlib.Core.Path.{_≡_};
-ghost use Rattle.trunk.specs.Trunk.{freshTrunk, nothingDialled, nothingSeized, refusing, passing, voiceTaken, digitsTaken, signallingTaken, faxTaken, sidTaken, dataTaken, taken};
+ghost use Rattle.trunk.specs.Trunk.{freshTrunk, nothingDialled, nothingSeized, nothingFaxed, refusing, passing, voiceTaken, digitsTaken, signallingTaken, faxTaken, sidTaken, dataTaken, taken};
 ghost use Rattle.data.specs.Data.{dataRead};
-ghost use Rattle.fax.specs.Fax.{faxRead};
 ghost use Rattle.voice.specs.Voice.{voiceRead};
 ghost use Rattle.sid.specs.Sid.{sidRead};
 
@@ -21,6 +20,7 @@ ghost use Rattle.sid.specs.Sid.{sidRead};
 pub struct Trunk {
     pub digits: dialled::Receiver,
     pub signalling: seized::Receiver,
+    pub fax: faxing::Receiver,
 }
 
 // What was heard.
@@ -52,6 +52,14 @@ pub struct Seized {
     pub periods: [u8; 30],
 }
 
+// What the fax replay handed on: whether octets are missing before these; so many octets, oldest first, then 0; what was done.
+pub struct Faxed {
+    pub gap: bool,
+    pub count: u8,
+    pub octets: [u8; 72],
+    pub did: Did,
+}
+
 // What a payload brings about: the refusal number, 0 where it is taken; what was heard; what each receiver appended; and the trunk
 // after it, which is as it was where the payload is refused.
 pub struct Told {
@@ -59,6 +67,7 @@ pub struct Told {
     pub heard: Heard,
     pub dialled: Dialled,
     pub seized: Seized,
+    pub faxed: Faxed,
     pub trunk: Trunk,
 }
 
@@ -69,6 +78,7 @@ pub fn fresh() -> Trunk
     Trunk {
         digits: dialled::fresh(),
         signalling: seized::fresh(),
+        fax: faxing::fresh(),
     }
 }
 
@@ -95,6 +105,17 @@ fn nothing_seized() -> Seized
     }
 }
 
+fn nothing_faxed() -> Faxed
+    ensures { λ r. ⌜ r ≡ nothingFaxed ⌝ }
+{
+    Faxed {
+        gap: false,
+        count: 0,
+        octets: [0u8; 72],
+        did: Did::Nothing,
+    }
+}
+
 // A refused payload.
 fn refuse(trunk: Trunk, number: u8) -> Told
     ensures { λ r. ⌜ r ≡ refusing trunk number ⌝ }
@@ -104,6 +125,7 @@ fn refuse(trunk: Trunk, number: u8) -> Told
         heard: Heard::HeardNothing,
         dialled: nothing_dialled(),
         seized: nothing_seized(),
+        faxed: nothing_faxed(),
         trunk,
     }
 }
@@ -117,6 +139,7 @@ fn pass(trunk: Trunk, heard: Heard) -> Told
         heard,
         dialled: nothing_dialled(),
         seized: nothing_seized(),
+        faxed: nothing_faxed(),
         trunk,
     }
 }
@@ -129,9 +152,11 @@ fn take_voice(trunk: Trunk, rec: Record, payload: &[u8]) -> Told
         VoiceRead::Voice { .. } => {
             let digits = trunk.digits;
             let signalling = trunk.signalling;
+            let fax = trunk.fax;
             let after = Trunk {
                 digits: dialled::hear_voice(digits),
                 signalling: signalling,
+                fax: fax,
             };
             pass(after, Heard::HeardVoice)
         }
@@ -143,6 +168,7 @@ fn take_digits(trunk: Trunk, payload: &[u8]) -> Told
 {
     let digits = trunk.digits;
     let signalling = trunk.signalling;
+    let fax = trunk.fax;
     let got = dialled::receive(digits, payload);
     if got.number != refusal::SOUND {
         return refuse(trunk, got.number);
@@ -160,9 +186,11 @@ fn take_digits(trunk: Trunk, payload: &[u8]) -> Told
             periods: periods,
         },
         seized: nothing_seized(),
+        faxed: nothing_faxed(),
         trunk: Trunk {
             digits: after,
             signalling: signalling,
+            fax: fax,
         },
     }
 }
@@ -172,6 +200,7 @@ fn take_signalling(trunk: Trunk, payload: &[u8]) -> Told
 {
     let digits = trunk.digits;
     let signalling = trunk.signalling;
+    let fax = trunk.fax;
     let got = seized::receive(signalling, payload);
     if got.number != refusal::SOUND {
         return refuse(trunk, got.number);
@@ -188,19 +217,44 @@ fn take_signalling(trunk: Trunk, payload: &[u8]) -> Told
             carried: got.carried,
             periods: periods,
         },
+        faxed: nothing_faxed(),
         trunk: Trunk {
             digits: digits,
             signalling: after,
+            fax: fax,
         },
     }
 }
 
 fn take_fax(trunk: Trunk, payload: &[u8]) -> Told
-    ensures { λ r. ⌜ r ≡ faxTaken trunk (faxRead (now (payload .entry))) ⌝ }
+    ensures { λ r. ⌜ r ≡ faxTaken trunk (now (payload .entry)) ⌝ }
 {
-    match fax::read_fax(payload) {
-        FaxRead::BadFax(number) => refuse(trunk, number),
-        FaxRead::Fax { .. } => pass(trunk, Heard::HeardFax),
+    let digits = trunk.digits;
+    let signalling = trunk.signalling;
+    let fax = trunk.fax;
+    let got = faxing::receive(fax, payload);
+    if got.number != refusal::SOUND {
+        return refuse(trunk, got.number);
+    }
+    let octets = got.octets;
+    let did = got.did;
+    let after = got.receiver;
+    Told {
+        number: refusal::SOUND,
+        heard: Heard::HeardFax,
+        dialled: nothing_dialled(),
+        seized: nothing_seized(),
+        faxed: Faxed {
+            gap: got.gap,
+            count: got.count,
+            octets: octets,
+            did: did,
+        },
+        trunk: Trunk {
+            digits: digits,
+            signalling: signalling,
+            fax: after,
+        },
     }
 }
 

@@ -9,8 +9,13 @@ nothing-dialled-requires c κs = search needs
 nothing-seized-requires : tie.Need-nothing-seized-requires
 nothing-seized-requires c κs = search needs
 
+nothing-faxed-requires : tie.Need-nothing-faxed-requires
+nothing-faxed-requires c κs = search needs
+
 returns : tie.Need-returns
 returns c = cc
 
 pub refuse-spec : {M : Type 1} → statement M
-refuse-spec = tie.close (tie.spec nothing-dialled-requires nothing-seized-requires returns)
+refuse-spec =
+    tie.close
+    (tie.spec nothing-dialled-requires nothing-seized-requires nothing-faxed-requires returns)

@@ -33,7 +33,7 @@ returns-2 : tie.Need-returns-2
 returns-2 c =
     let t = c .before .before .before .before .before .before .before .before .args .trunk in
     c .pass .ensures
-    ∙ ap (λ (d : Receiver). passing (record { digits = d; signalling = t .signalling }) HeardVoice) (c .before .hear-voice .ensures)
+    ∙ ap (λ (d : Receiver). passing (record { digits = d; signalling = t .signalling; fax = t .fax }) HeardVoice) (c .before .hear-voice .ensures)
     ∙ ap (voiceTaken t) (sym (c .before .before .before .before .enum-told .given .1) ∙ c .before .before .before .before .before .before .read-voice .ensures)
 
 pub take-voice-spec : {M : Type 1} → statement M
