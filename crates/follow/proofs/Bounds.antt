@@ -18,7 +18,7 @@ module _ (room : ℕ) (table : List ℕ) (cid : ℕ) (begun : Begun) (kept : Lis
       omega (
         arith,
         ap (λ (l : Followed). l .taken) is,
-        walks.taken-within (lineFollowing table cid) 20032 (length piece) room 0 begun kept t piece,
+        walks.taken-within (lineFollowing table cid) 26176 (length piece) room 0 begun kept t piece,
       )
 
   pub takes-some : mostFollowed ≤ room → 0 < length piece → 0 < r .taken
@@ -26,5 +26,5 @@ module _ (room : ℕ) (table : List ℕ) (cid : ℕ) (begun : Begun) (kept : Lis
       omega (
         arith,
         ap (λ (l : Followed). l .taken) is,
-        joins.some-taken Trunk (lineFollowing table cid) 20032 room begun kept t piece enough some,
+        joins.some-taken Trunk (lineFollowing table cid) 26176 room begun kept t piece enough some,
       )

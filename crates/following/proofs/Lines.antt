@@ -1,12 +1,15 @@
 -- The lines of a payload, put one behind the other.
-use Prim.Native.Nat.{ℕ, zero, suc, _+_, _≤_}
+use Prim.Native.Nat.{ℕ, zero, suc, _+_, _≤_, min}
 use mathlib.Core.Path.{_≡_, refl, sym, ap, _∙_}
 use mathlib.Core.List.{List, [], _∷_, _++_, append-assoc, append-nil}
+use mathlib.Core.Logic.{⊎-elim}
 use native.Mathlib.Omega.{arith}
 use borrow.Author.Tests.{lt-ltb}
 use lib.Dec.{ltb}
 use lib.ListN.{length, getD, take}
+use lib.Seq.{take-all}
 use Rattle.octets.specs.Text.{ascii}
+use Rattle.octets.proofs.Order.{lt-or-le}
 use Rattle.digits.specs.Layout.{offWindow}
 use Rattle.trunk.specs.declared.Dialled.{Dialled}
 use Rattle.printing.specs.Field.{hexField}
@@ -48,3 +51,12 @@ pub dialled :
 unfolding dialledLines
 dialled d w f s t room counts periods =
     appending.reads (appending.then counts periods (omega arith)) (rw (w, f, s, t))
+
+-- the octets that are handed on, of seventy-two places
+pub handed-on : (n : ℕ) (page : List ℕ) → length page ≡ 72 → take (min n 72) page ≡ take n page
+handed-on n page many =
+    ⊎-elim (λ less. let same : min n 72 ≡ n = omega arith in ap (λ (k : ℕ). take k page) same)
+    (λ more.
+    let same : min n 72 ≡ 72 = omega arith in
+    ap (λ (k : ℕ). take k page) same ∙ take-all 72 page (omega arith) ∙ sym (take-all n page (omega arith)))
+    (lt-or-le n 72)

@@ -51,7 +51,7 @@ module _ (frame table : List ℕ) (cid : ℕ) (begun : Begun) (kept piece : List
 -- after `at` octets of the piece
 abbrev pub Going : List ℕ → ℕ → List ℕ → List ℕ → Walk Trunk → List ℕ → List ℕ → Begun → Trunk → ℕ → ℕ → Type 0
 Going table cid out₀ piece whole kept out begun t used at =
-    walks.Going (lineFollowing table cid) 20032 out₀ piece whole kept out begun t used at
+    walks.Going (lineFollowing table cid) 26176 out₀ piece whole kept out begun t used at
 
 -- one line more, from what `take_line` and `put_taken` answer
 pub turn :
@@ -61,16 +61,16 @@ pub turn :
     → (frame : List ℕ) (line : Taken) {now frame′ after : List ℕ} {r : Shown}
     → (is : line ≡ lineTaken (length frame) begun kept (take (length piece - at) (drop at piece)))
     → 1600 ≤ length frame
-    → 20032 ≤ length out - used
+    → 26176 ≤ length out - used
     → now ≡ keptBehind (begun .have) kept (take (length piece - at) (drop at piece))
     → frame′ ≡ written frame 0 (octetsOf (heldBy (length frame) (begun .have) kept (take (length piece - at) (drop at piece))))
-    → Stands out used (cond (line .whole) (followingOf (begun .number) table cid (line .read) frame′ t) (nothing t)) 20032 after r
+    → Stands out used (cond (line .whole) (followingOf (begun .number) table cid (line .read) frame′ t) (nothing t)) 26176 after r
     → Going table cid out₀ piece whole now after (line .next) (r .trunk) (r .next) (at + line .size)
 turn table cid {out₀} {piece} {whole} {kept} {out} {begun} {t} {used} {at} going there frame line is large fits keeps holds put =
-    let tells = walks.tells (lineFollowing table cid) 20032 going there frame line is in
+    let tells = walks.tells (lineFollowing table cid) 26176 going there frame line is in
     let told = told-is frame table cid begun kept (drop at piece) t line tells large (rw (ends.rest-is piece at) at holds) in
     let stands = turns.stands-as put told in
-    walks.turn (lineFollowing table cid) 20032 going there frame line is fits keeps refl (stands .leaves) (stands .text .ends) (stands .text .holds)
+    walks.turn (lineFollowing table cid) 26176 going there frame line is fits keeps refl (stands .leaves) (stands .text .ends) (stands .text .holds)
     (stands .text .size)
 
 -- what the code promises, from what it promises of any walk
@@ -105,26 +105,26 @@ module _ (table : List ℕ) (cid : ℕ) (begun : Begun) (kept : List ℕ) (t : T
 
   pub none-kept : begun .have ≡ 0 → LastPromised 0 out
   none-kept h =
-      let is = ap (λ (told : Told Trunk). told .text) (walks.last-none (lineFollowing table cid) 20032 (length out) begun kept t h) in
+      let is = ap (λ (told : Told Trunk). told .text) (walks.last-none (lineFollowing table cid) 26176 (length out) begun kept t h) in
       as-text [] (sym is) refl (sym (writes.written-none out 0))
 
   module _ (some : begun .have ≡ 0 → ⊥) where
     is-some :
         lastFollowed (length out) table cid begun kept t
-        ≡ cond (ltb (length out) 20032) [] (lineFollowing table cid (begun .number) (take (begun .have) kept) t .text)
-    is-some = walks.last-text (lineFollowing table cid) 20032 (length out) begun kept t some
+        ≡ cond (ltb (length out) 26176) [] (lineFollowing table cid (begun .number) (take (begun .have) kept) t .text)
+    is-some = walks.last-text (lineFollowing table cid) 26176 (length out) begun kept t some
 
-    pub no-room : length out < 20032 → LastPromised 0 out
-    no-room short = as-text [] (rw (lt-ltb (length out) 20032 short) at (sym is-some)) refl (sym (writes.written-none out 0))
+    pub no-room : length out < 26176 → LastPromised 0 out
+    no-room short = as-text [] (rw (lt-ltb (length out) 26176 short) at (sym is-some)) refl (sym (writes.written-none out 0))
 
     pub last :
         {end : ℕ} {read : Read} {frame′ after : List ℕ} {r : Shown} (frame : List ℕ)
-        → 20032 ≤ length out
+        → 26176 ≤ length out
         → end ≡ min (begun .have) (length kept)
         → 1600 ≤ length frame
         → read ≡ readOf (inRoom (length frame) (lineRead (take end kept)))
         → frame′ ≡ written frame 0 (octetsOf (inRoom (length frame) (lineRead (take end kept))))
-        → Stands out 0 (followingOf (begun .number) table cid read frame′ t) 20032 after r
+        → Stands out 0 (followingOf (begun .number) table cid read frame′ t) 26176 after r
         → LastPromised (r .next) after
     last {end} frame room cut large says holds put =
         let same : take end kept ≡ take (begun .have) kept = ap (λ (k : ℕ). take k kept) cut ∙ keeping.take-least (begun .have) kept in
@@ -132,5 +132,5 @@ module _ (table : List ℕ) (cid : ℕ) (begun : Begun) (kept : List ℕ) (t : T
         ∙ ap (λ (l : List ℕ). lineFollowing table cid (begun .number) l t) same
         in
         let stands = turns.stands-as put told in
-        as-text (lineFollowing table cid (begun .number) (take (begun .have) kept) t .text) (rw (le-ltb (length out) 20032 room) at (sym is-some))
+        as-text (lineFollowing table cid (begun .number) (take (begun .have) kept) t .text) (rw (le-ltb (length out) 26176 room) at (sym is-some))
         (omega (arith, stands .text .ends)) (stands .text .holds)

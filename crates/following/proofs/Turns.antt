@@ -45,17 +45,17 @@ stands-none out at t most = record { text = appending.within (appending.none out
 
 module _ (n : ℕ) (table : List ℕ) (cid : ℕ) (s : List ℕ) where
   module _ (sub : SubFrame) (t : Trunk) where
-    pub other : (out : List ℕ) (at : ℕ) → (sub .cid ≡ cid → ⊥) → Stands out at (subFollowing n table cid s sub t) 313 out (record { next = at; trunk = t })
+    pub other : (out : List ℕ) (at : ℕ) → (sub .cid ≡ cid → ⊥) → Stands out at (subFollowing n table cid s sub t) 409 out (record { next = at; trunk = t })
     unfolding subFollowing
-    other out at h = stands-as (stands-none out at t 313) (simp (ne-eqb (sub .cid) cid h))
+    other out at h = stands-as (stands-none out at t 409) (simp (ne-eqb (sub .cid) cid h))
 
     pub own :
         {out after : List ℕ} {at next : ℕ} {found : Found} {told : trunks.Told}
         → sub .cid ≡ cid
         → found ≡ foundAt table cid
         → told ≡ taken t found (sub .ptype) (take (endOf sub - sub .start) (drop (sub .start) s))
-        → Appended out at (subLines n sub told) 313 after next
-        → Stands out at (subFollowing n table cid s sub t) 313 after (record { next = next; trunk = told .trunk })
+        → Appended out at (subLines n sub told) 409 after next
+        → Stands out at (subFollowing n table cid s sub t) 409 after (record { next = next; trunk = told .trunk })
     unfolding subFollowing
     own {told = told} h f is p =
         let size : endOf sub - sub .start ≡ sub .len = omega arith in
@@ -93,7 +93,7 @@ module _ (n : ℕ) (table : List ℕ) (cid : ℕ) (s : List ℕ) where
   pub record Going (t : Trunk) (out₀ out : List ℕ) (at next place i : ℕ) (now : Trunk) : Type 0 where
     pub within : i ≤ length (opening s .subs)
     pub rest : chain.Chain s place (drop i (opening s .subs))
-    pub stands : Stands out₀ at (subsFollowing n table cid s (take i (opening s .subs)) t) (313 * i) out (record { next = next; trunk = now })
+    pub stands : Stands out₀ at (subsFollowing n table cid s (take i (opening s .subs)) t) (409 * i) out (record { next = next; trunk = now })
 
   pub begins : (out : List ℕ) (at : ℕ) (t : Trunk) → Going t out out at at 0 0 t
   unfolding subsFollowing
@@ -104,7 +104,7 @@ module _ (n : ℕ) (table : List ℕ) (cid : ℕ) (s : List ℕ) where
   few = chain.opening-fine s .few
 
   module _ {t : Trunk} {out₀ out : List ℕ} {at next place i : ℕ} {now : Trunk} (going : Going t out₀ out at next place i now)
-      (room : at + 20032 ≤ length out₀) where
+      (room : at + 26176 ≤ length out₀) where
     pub same-length : length out ≡ length out₀
     same-length = appending.same-length (going .stands .text) (omega (arith, few, going .within))
 
@@ -112,12 +112,12 @@ module _ (n : ℕ) (table : List ℕ) (cid : ℕ) (s : List ℕ) where
       pub ends : endOf sub ≤ length s
       ends = chain.ends s place i (opening s .subs) (going .rest) sub is more
 
-      pub room-left : next + 313 ≤ length out
-      room-left = appending.room-behind (going .stands .text) 313 (omega (arith, few))
+      pub room-left : next + 409 ≤ length out
+      room-left = appending.room-behind (going .stands .text) 409 (omega (arith, few))
 
       pub turn :
           {after : List ℕ} {r : Shown}
-          → Stands out next (subFollowing n table cid s sub now) 313 after r
+          → Stands out next (subFollowing n table cid s sub now) 409 after r
           → Going t out₀ after at (r .next) (endOf sub) (i + 1) (r .trunk)
       turn {after} {r} one =
           let this = chain.this s place i (opening s .subs) (going .rest) sub is more in
@@ -131,22 +131,22 @@ module _ (n : ℕ) (table : List ℕ) (cid : ℕ) (s : List ℕ) where
           record {
             within = omega arith;
             rest = chain.onward s place i (opening s .subs) (going .rest) sub is more;
-            stands = stands-as (record { text = appending.within both (313 * (i + 1)) (omega arith); leaves = one .leaves }) told;
+            stands = stands-as (record { text = appending.within both (409 * (i + 1)) (omega arith); leaves = one .leaves }) told;
           }
 
-    pub whole : length (opening s .subs) ≤ i → Stands out₀ at (subsFollowing n table cid s (opening s .subs) t) 20032 out (record { next = next; trunk = now })
+    pub whole : length (opening s .subs) ≤ i → Stands out₀ at (subsFollowing n table cid s (opening s .subs) t) 26176 out (record { next = next; trunk = now })
     whole all =
         let told = ap (λ (l : List SubFrame). subsFollowing n table cid s l t) (take-all i (opening s .subs) all) in
-        stands-as (stands-within (going .stands) 20032 (omega (arith, few, going .within))) told
+        stands-as (stands-within (going .stands) 26176 (omega (arith, few, going .within))) told
 
 -- the lines of a refusal, and the trunk as it was
 pub refused :
     (out : List ℕ) (at n number place : ℕ) (t : Trunk) {after : List ℕ} {next : ℕ}
-    → at + 20032 ≤ length out
+    → at + 26176 ≤ length out
     → appending.Put 80 out at (refusedListing n number place) after next
-    → Stands out at (refusing n number place t) 20032 after (record { next = next; trunk = t })
+    → Stands out at (refusing n number place t) 26176 after (record { next = next; trunk = t })
 refused out at n number place t room p =
-    record { text = appending.within (appending.refused-stands out at n number place (omega arith) p) 20032 (omega arith); leaves = refl }
+    record { text = appending.within (appending.refused-stands out at n number place (omega arith) p) 26176 (omega arith); leaves = refl }
 
 -- a frame, by what checking it tells
 module _ (n : ℕ) (table : List ℕ) (cid : ℕ) (s : List ℕ) (t : Trunk) {number : ℕ} (tells : number ≡ opening s .number) where

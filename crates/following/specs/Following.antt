@@ -13,18 +13,21 @@ use Rattle.record.specs.Record.{foundAt}
 use Rattle.digits.specs.declared.layout.Window.{Window}
 use Rattle.digits.specs.Layout.{offWindow}
 use Rattle.seized.specs.declared.Receiver.{Receiver}
+use Rattle.faxing.specs.declared.Did.{Did}
+use Rattle.faxing.specs.declared.Did.the-variants.{Nothing, Began, Stopped, Added, Ended, Aborted}
 use Rattle.trunk.specs.declared.Trunk.{Trunk}
 use Rattle.trunk.specs.declared.Heard.{Heard}
 use Rattle.trunk.specs.declared.Heard.the-variants.{HeardNothing, HeardVoice, HeardSilence, HeardDigits, HeardSignalling, HeardData, HeardFax}
 use Rattle.trunk.specs.declared.Dialled.{Dialled}
 use Rattle.trunk.specs.declared.Seized.{Seized}
+use Rattle.trunk.specs.declared.Faxed.{Faxed}
 use Rattle.trunk.specs.declared.Told as trunks
 use Rattle.trunk.specs.Trunk as trunk
 use Rattle.hexline.specs.Line.{Held, octets, lineRead}
 use Rattle.hexline.specs.Line.{refused as refusedLine}
 use Rattle.recording.specs.Walk.{Told, nothing, behind}
 use Rattle.recording.specs.Input.{Program, inputPrinted}
-use Rattle.printing.specs.Field.{field, hexField}
+use Rattle.printing.specs.Field.{field, hexField, line}
 use Rattle.printing.specs.Refused.{refusedListing, textListing}
 
 -- ---- A payload
@@ -63,15 +66,33 @@ seizedLines s r =
     countLines (s .fills) (s .fill ∷ []) (s .carried) ++ periodLines (take (s .carried) (tens (s .periods)))
     ++ field (ascii "value=") (r .value) ++ field (ascii "alarm=") (bit (r .alarm))
 
+-- "`did=` .., and after `began` also `hdlc=` .., `modulation=`, `frequency=`, `stamp=`, after `stopped` also `stamp=`"
+unfoldable pub didLines : Did → List ℕ
+didLines Nothing = line (ascii "did=nothing")
+didLines (Began hdlc modulation frequency stamp) =
+    line (ascii "did=began") ++ field (ascii "hdlc=") (bit hdlc) ++ field (ascii "modulation=") modulation
+    ++ field (ascii "frequency=") frequency ++ field (ascii "stamp=") stamp
+didLines (Stopped stamp) = line (ascii "did=stopped") ++ field (ascii "stamp=") stamp
+didLines Added = line (ascii "did=added")
+didLines Ended = line (ascii "did=ended")
+didLines Aborted = line (ascii "did=aborted")
+
+-- "`gap=` (0 or 1), `octets=` (hex, oldest first, possibly nothing), `did=`"
+abbrev pub pageLine : List ℕ → List ℕ
+pageLine page = hexField (ascii "octets=") page
+
+unfoldable pub faxedLines : Faxed → List ℕ
+faxedLines f = field (ascii "gap=") (bit (f .gap)) ++ pageLine (take (f .count) (f .octets)) ++ didLines (f .did)
+
 -- "A payload of another kind prints nothing more."
 abbrev pub heardLines : Heard → trunks.Told → List ℕ
 heardLines HeardDigits told = dialledLines (told .dialled)
 heardLines HeardSignalling told = seizedLines (told .seized) (told .trunk .signalling)
+heardLines HeardFax told = faxedLines (told .faxed)
 heardLines HeardNothing told = []
 heardLines HeardVoice told = []
 heardLines HeardSilence told = []
 heardLines HeardData told = []
-heardLines HeardFax told = []
 
 -- ---- A sub-frame, a frame, a line
 
@@ -122,7 +143,7 @@ lineFollowing table cid n line t = readFollowing n table cid (lineRead line) t
 
 -- The room that is asked for the text of a line: 20 digits for every number, 64 sub-frames of the sub-channel.
 abbrev pub mostFollowed : ℕ
-mostFollowed = 20032
+mostFollowed = 26176
 
 -- the program, for a sub-channel
 abbrev pub follower : ℕ → Program Trunk

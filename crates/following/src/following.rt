@@ -14,9 +14,9 @@ ghost use Rattle.printing.specs.Room.{Appended};
 ghost use Rattle.following.specs.Following.{subLines, subFollowing, subsFollowing, frameFollowing};
 ghost use Rattle.following.specs.Private.{Stands, followingOf};
 
-// The room that is asked for a line's text: 64 sub-frames, each of 106 octets for `frame=` to `answer=` and 207 for a signalling
+// The room that is asked for a line's text: 64 sub-frames, each of 106 octets for `frame=` to `answer=` and 303 for a fax
 // payload, the longest.
-pub(crate) const MOST_FOLLOWED: usize = 20032;
+pub(crate) const MOST_FOLLOWED: usize = 26176;
 
 // The place after what is printed, and the trunk then.
 pub(crate) struct Shown {
@@ -25,8 +25,8 @@ pub(crate) struct Shown {
 }
 
 fn put_lines(out: &mut [u8], at: usize, n: u64, sub: SubFrame, told: Told) -> usize
-    requires { ⌜ at + 313 ≤ length (now out) ⌝ }
-    ensures { λ r. ⌜ Appended (now (out .entry)) at (subLines n sub told) 313 (now (out .exit)) r ⌝ }
+    requires { ⌜ at + 409 ≤ length (now out) ⌝ }
+    ensures { λ r. ⌜ Appended (now (out .entry)) at (subLines n sub told) 409 (now (out .exit)) r ⌝ }
 {
     let past_frame = put_field(out, at, b"frame=", n);
     let past_type = put_field(out, past_frame, b"type=", sub.ptype as u64);
@@ -46,9 +46,9 @@ fn put_sub(
     sub: SubFrame,
     trunk: Trunk,
 ) -> Shown
-    requires { ⌜ at + 313 ≤ length (now out) ⌝ }
+    requires { ⌜ at + 409 ≤ length (now out) ⌝ }
     requires { ⌜ endOf sub ≤ length (now frame) ⌝ }
-    ensures { λ r. ⌜ Stands (now (out .entry)) at (subFollowing n (now (table .entry)) cid (now (frame .entry)) sub trunk) 313 (now (out .exit)) r ⌝ }
+    ensures { λ r. ⌜ Stands (now (out .entry)) at (subFollowing n (now (table .entry)) cid (now (frame .entry)) sub trunk) 409 (now (out .exit)) r ⌝ }
 {
     if sub.cid != cid {
         return Shown { next: at, trunk };
@@ -73,10 +73,10 @@ fn put_subs(
     count: usize,
     trunk: Trunk,
 ) -> Shown
-    requires { ⌜ at + 20032 ≤ length (now out) ⌝ }
+    requires { ⌜ at + 26176 ≤ length (now out) ⌝ }
     requires { ⌜ length (now frame) ≤ 1600 ⌝ }
     requires { ⌜ count ≡ length (opening (now frame) .subs) ⌝ }
-    ensures { λ r. ⌜ Stands (now (out .entry)) at (subsFollowing n (now (table .entry)) cid (now (frame .entry)) (opening (now (frame .entry)) .subs) trunk) 20032 (now (out .exit)) r ⌝ }
+    ensures { λ r. ⌜ Stands (now (out .entry)) at (subsFollowing n (now (table .entry)) cid (now (frame .entry)) (opening (now (frame .entry)) .subs) trunk) 26176 (now (out .exit)) r ⌝ }
 {
     let mut next = at;
     let mut after = trunk;
@@ -104,9 +104,9 @@ fn put_frame(
     frame: &[u8],
     trunk: Trunk,
 ) -> Shown
-    requires { ⌜ at + 20032 ≤ length (now out) ⌝ }
+    requires { ⌜ at + 26176 ≤ length (now out) ⌝ }
     requires { ⌜ length (now frame) ≤ 1600 ⌝ }
-    ensures { λ r. ⌜ Stands (now (out .entry)) at (frameFollowing n (now (table .entry)) cid (now (frame .entry)) trunk) 20032 (now (out .exit)) r ⌝ }
+    ensures { λ r. ⌜ Stands (now (out .entry)) at (frameFollowing n (now (table .entry)) cid (now (frame .entry)) trunk) 26176 (now (out .exit)) r ⌝ }
 {
     let checked = frame::check(frame);
     let number = checked.number;
@@ -128,10 +128,10 @@ pub(crate) fn put_read(
     frame: &[u8],
     trunk: Trunk,
 ) -> Shown
-    requires { ⌜ at + 20032 ≤ length (now out) ⌝ }
+    requires { ⌜ at + 26176 ≤ length (now out) ⌝ }
     requires { ⌜ read .octets ≤ length (now frame) ⌝ }
     requires { ⌜ length (now frame) ≤ 1600 ⌝ }
-    ensures { λ r. ⌜ Stands (now (out .entry)) at (followingOf n (now (table .entry)) cid read (now (frame .entry)) trunk) 20032 (now (out .exit)) r ⌝ }
+    ensures { λ r. ⌜ Stands (now (out .entry)) at (followingOf n (now (table .entry)) cid read (now (frame .entry)) trunk) 26176 (now (out .exit)) r ⌝ }
 {
     let number = read.number;
     if number == refusal::SOUND {

@@ -14,7 +14,7 @@ ghost use Rattle.printing.specs.Room.{Appended};
 ghost use Rattle.following.specs.Following.{bit, windowOctets, tens, periodLines, countLines, dialledLines, seizedLines, heardLines};
 ghost use Rattle.following.specs.Private.{periodLine};
 
-fn bit(b: bool) -> u8
+pub(crate) fn bit(b: bool) -> u8
     ensures { λ r. ⌜ r ≡ bit b ⌝ }
 {
     if b { 1 } else { 0 }
@@ -111,8 +111,8 @@ fn put_seized(out: &mut [u8], at: usize, seized: Seized, receiver: seized::Recei
 
 // What is printed of a payload behind `answer=`.
 pub(crate) fn put_heard(out: &mut [u8], at: usize, told: Told) -> usize
-    requires { ⌜ at + 207 ≤ length (now out) ⌝ }
-    ensures { λ r. ⌜ Appended (now (out .entry)) at (heardLines (told .heard) told) 207 (now (out .exit)) r ⌝ }
+    requires { ⌜ at + 303 ≤ length (now out) ⌝ }
+    ensures { λ r. ⌜ Appended (now (out .entry)) at (heardLines (told .heard) told) 303 (now (out .exit)) r ⌝ }
 {
     let heard = told.heard;
     match heard {
@@ -126,10 +126,13 @@ pub(crate) fn put_heard(out: &mut [u8], at: usize, told: Told) -> usize
             let receiver = after.signalling;
             put_seized(out, at, seized, receiver)
         }
+        Heard::HeardFax => {
+            let faxed = told.faxed;
+            crate::faxed::put_faxed(out, at, faxed)
+        }
         Heard::HeardNothing => at,
         Heard::HeardVoice => at,
         Heard::HeardSilence => at,
         Heard::HeardData => at,
-        Heard::HeardFax => at,
     }
 }

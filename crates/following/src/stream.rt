@@ -34,10 +34,10 @@ fn put_taken(
     frame: &[u8],
     trunk: Trunk,
 ) -> Shown
-    requires { ⌜ at + 20032 ≤ length (now out) ⌝ }
+    requires { ⌜ at + 26176 ≤ length (now out) ⌝ }
     requires { ⌜ line .read .octets ≤ length (now frame) ⌝ }
     requires { ⌜ length (now frame) ≤ 1600 ⌝ }
-    ensures { λ r. ⌜ Stands (now (out .entry)) at (cond (line .whole) (followingOf n (now (table .entry)) cid (line .read) (now (frame .entry)) trunk) (nothing trunk)) 20032 (now (out .exit)) r ⌝ }
+    ensures { λ r. ⌜ Stands (now (out .entry)) at (cond (line .whole) (followingOf n (now (table .entry)) cid (line .read) (now (frame .entry)) trunk) (nothing trunk)) 26176 (now (out .exit)) r ⌝ }
 {
     if line.whole {
         let read = line.read;

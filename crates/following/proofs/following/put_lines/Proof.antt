@@ -45,7 +45,7 @@ put-heard-requires c κs =
     let two = appending.then-field one (ascii "type=") (a .sub .ptype) (omega (arith, room)) (c .before .before .before .before .before .before .before .before .before .before .before .before .before .before .put-field2 .ensures) in
     let three = appending.then-field two (ascii "len=") (a .sub .len) (omega (arith, room)) (c .before .before .before .before .before .before .before .before .before .put-field3 .ensures) in
     let four = appending.then-field three (ascii "answer=") (a .told .number) (omega (arith, room)) (c .before .before .before .put-field4 .ensures) in
-    appending.room-behind four 207 (omega (arith, room))
+    appending.room-behind four 303 (omega (arith, room))
 
 same-length : tie.Need-same-length
 same-length c =

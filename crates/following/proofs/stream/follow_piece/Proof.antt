@@ -20,7 +20,7 @@ abbrev μ-loop : tie.MeasureT-loop
 
 loop-holds : tie.Need-loop-holds Inv-loop μ-loop
 loop-holds c =
-    let a = c .before .before .args in (walks.begins (lineFollowing (a .table .now) (a .cid)) 20032 (a .out .now) (a .piece .now) (a .kept .now) (a .begun) (a .trunk), refl)
+    let a = c .before .before .args in (walks.begins (lineFollowing (a .table .now) (a .cid)) 26176 (a .out .now) (a .piece .now) (a .kept .now) (a .begun) (a .trunk), refl)
 
 sub-if1 : tie.Need-sub-if1 Inv-loop μ-loop
 sub-if1 c = omega (arith, c .before .loop .inv .0 .room, walks.same-length _ _ (c .before .loop .inv .0))
