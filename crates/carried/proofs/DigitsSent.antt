@@ -16,7 +16,7 @@ use Rattle.dialling.specs.declared.Taken.{Taken}
 use Rattle.dialling.specs.Sender.{freshSender, windowIn, changes, strayEdge, loud, due, period, sending}
 use Rattle.dialling.specs.SenderClaims.{answers, loudOf, loudPeriods, nearLoud}
 use Rattle.dialling.proofs.SentExactly.{sent-exactly}
-use Rattle.trunk.proofs.Cases.{picked}
+use Rattle.octets.proofs.Order.{picked}
 use Rattle.carried.specs.DigitsSent.{toneOf, changesFrom, loudFrom, refusedFrom, refusals, louds, isRefused, DigitsSentExactly}
 
 -- the tone that a sender holds

@@ -16,9 +16,7 @@ use Rattle.sid.specs.Sid.{sidRead}
 use Rattle.data.specs.declared.DataRead.{DataRead}
 use Rattle.data.specs.declared.DataRead.the-variants.{Fragment, BadData}
 use Rattle.data.specs.Data.{dataRead}
-use Rattle.fax.specs.declared.FaxRead.{FaxRead}
-use Rattle.fax.specs.declared.FaxRead.the-variants.{Fax, BadFax}
-use Rattle.fax.specs.Fax.{faxRead}
+use Rattle.faxing.specs.Replay as faxing
 use Rattle.digits.specs.declared.layout.Window.{Window}
 use Rattle.digits.specs.declared.layout.Digits.{Digits}
 use Rattle.digits.specs.declared.layout.DigitsRead.{DigitsRead}
@@ -38,8 +36,9 @@ use Rattle.payload.specs.Layout.{layoutOf}
 use Rattle.payload.specs.Content.{dialled, seized, reads, refused, payloadRead, readAs, ofDigits}
 use Rattle.trunk.specs.declared.Trunk.{Trunk}
 use Rattle.trunk.specs.declared.Told.{Told}
-use Rattle.trunk.specs.Trunk.{freshTrunk, dialledTo, seizedTo, voiceTaken, faxTaken, sidTaken, dataTaken, takenAs, taken}
-use Rattle.trunk.proofs.Cases.{as-layout, picked}
+use Rattle.trunk.specs.Trunk.{freshTrunk, dialledTo, seizedTo, voiceTaken, sidTaken, dataTaken, takenAs, taken}
+use Rattle.octets.proofs.Order.{picked}
+use Rattle.trunk.proofs.Cases.{as-layout}
 use Rattle.replay.specs.Periods.{Mark}
 use Rattle.carried.specs.Emissions.{Emission}
 use Rattle.carried.specs.Digits as digits
@@ -93,11 +92,9 @@ other-to-digits OfDigits t p none = go (digitsRead p) refl
 other-to-digits OfSignalling t p none =
     picked (λ (x : Told). ToDigits x [] (t .digits)) (eqb (seized.received (t .signalling) p .number) sound) _ _ (λ e. record { appends = refl; leaves = refl })
     (λ e. record { appends = refl; leaves = refl })
-other-to-digits OfFax t p none = go (faxRead p)
-  where
-    go : (read : FaxRead) → ToDigits (faxTaken t read) [] (t .digits)
-    go (Fax sequence stamp command front) = record { appends = refl; leaves = refl }
-    go (BadFax n) = record { appends = refl; leaves = refl }
+other-to-digits OfFax t p none =
+    picked (λ (x : Told). ToDigits x [] (t .digits)) (eqb (faxing.received (t .fax) p .number) sound) _ _ (λ e. record { appends = refl; leaves = refl })
+    (λ e. record { appends = refl; leaves = refl })
 other-to-digits (OfSid syntax) t p none = go (sidRead syntax p)
   where
     go : (read : SidRead) → ToDigits (sidTaken t read) [] (t .digits)
@@ -225,11 +222,9 @@ other-to-signalling OfSignalling t p none =
     picked (λ (got : signalling-received.Received). ToSignalling (seizedTo t got) [] (t .signalling)) (eqb (signallingRead p .number) sound) _ _
     (λ e. absurd (none (signallingRead p .signalling) (ap (λ (b : Bool). cond b (reads (seized (signallingRead p .signalling))) (refused (signallingRead p .number))) e)))
     (λ e. passed-to-signalling t (signallingRead p .number))
-other-to-signalling OfFax t p none = go (faxRead p)
-  where
-    go : (read : FaxRead) → ToSignalling (faxTaken t read) [] (t .signalling)
-    go (Fax sequence stamp command front) = record { appends = refl; leaves = refl }
-    go (BadFax n) = record { appends = refl; leaves = refl }
+other-to-signalling OfFax t p none =
+    picked (λ (x : Told). ToSignalling x [] (t .signalling)) (eqb (faxing.received (t .fax) p .number) sound) _ _ (λ e. record { appends = refl; leaves = refl })
+    (λ e. record { appends = refl; leaves = refl })
 other-to-signalling (OfSid syntax) t p none = go (sidRead syntax p)
   where
     go : (read : SidRead) → ToSignalling (sidTaken t read) [] (t .signalling)

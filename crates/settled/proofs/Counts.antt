@@ -6,6 +6,7 @@ use Rattle.counts.specs.declared.DigitCount.{DigitCount}
 use Rattle.counts.specs.declared.SignallingCount.{SignallingCount}
 use Rattle.counts.specs.declared.VoiceCount.{VoiceCount}
 use Rattle.counts.specs.declared.DataCount.{DataCount}
+use Rattle.counts.specs.declared.FaxCount.{FaxCount}
 use Rattle.counts.proofs.DigitCount.next.Kinds as digitcount-next-kinds
 use Rattle.counts.proofs.DigitCount.next.Reads as digitcount-next-reads
 use Rattle.counts.proofs.DigitCount.step_to.Kinds as digitcount-step-to-kinds
@@ -22,6 +23,10 @@ use Rattle.counts.proofs.DataCount.next.Kinds as datacount-next-kinds
 use Rattle.counts.proofs.DataCount.next.Reads as datacount-next-reads
 use Rattle.counts.proofs.DataCount.step_to.Kinds as datacount-step-to-kinds
 use Rattle.counts.proofs.DataCount.step_to.Reads as datacount-step-to-reads
+use Rattle.counts.proofs.FaxCount.next.Kinds as faxcount-next-kinds
+use Rattle.counts.proofs.FaxCount.next.Reads as faxcount-next-reads
+use Rattle.counts.proofs.FaxCount.step_to.Kinds as faxcount-step-to-kinds
+use Rattle.counts.proofs.FaxCount.step_to.Reads as faxcount-step-to-reads
 
 pub digitcount-next : OneAnswer 0 digitcount-next-kinds.ps digitcount-next-kinds.r nothing digitcount-next-reads.Post
 digitcount-next κs a x y s t p q = (let of : ℕ → DigitCount = λ n. record { 0 = n } in ap of (p ∙ sym q), refl)
@@ -46,3 +51,9 @@ datacount-next κs a x y s t p q = (let of : ℕ → DataCount = λ n. record { 
 
 pub datacount-step-to : OneAnswer 0 datacount-step-to-kinds.ps datacount-step-to-kinds.r nothing datacount-step-to-reads.Post
 datacount-step-to κs a x y s t p q = (p ∙ sym q, refl)
+
+pub faxcount-next : OneAnswer 0 faxcount-next-kinds.ps faxcount-next-kinds.r nothing faxcount-next-reads.Post
+faxcount-next κs a x y s t p q = (let of : ℕ → FaxCount = λ n. record { 0 = n } in ap of (p ∙ sym q), refl)
+
+pub faxcount-step-to : OneAnswer 0 faxcount-step-to-kinds.ps faxcount-step-to-kinds.r nothing faxcount-step-to-reads.Post
+faxcount-step-to κs a x y s t p q = (p ∙ sym q, refl)

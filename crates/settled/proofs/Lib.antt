@@ -13,6 +13,7 @@ pub mod Digits
 pub mod Signalling
 pub mod Data
 pub mod Fax
+pub mod Faxing
 pub mod Voice
 pub mod Sid
 pub mod Payload
