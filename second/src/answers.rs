@@ -1,6 +1,7 @@
 //! Printing what the trial, the follow and the unit program answer: a key and a
-//! value on each line, and the answers of the receivers.
+//! value on each line, and the answers of the receivers and of the fax replay.
 
+use crate::fax_replay::{Did, FaxAnswer};
 use crate::hex;
 use crate::payload::digits::Window;
 use crate::receivers::{DigitAnswer, SignallingAnswer, SignallingReceiver};
@@ -44,6 +45,40 @@ pub fn print_signalling_answer(
     print(output, "alarm", u8::from(receiver.alarm()))
 }
 
+/// The word for what a fax payload did.
+fn did_word(did: &Did) -> &'static str {
+    match did {
+        Did::Nothing => "nothing",
+        Did::Began { .. } => "began",
+        Did::Stopped { .. } => "stopped",
+        Did::Added => "added",
+        Did::Ended => "ended",
+        Did::Aborted => "aborted",
+    }
+}
+
+/// Prints the answer of a fax replay.
+pub fn print_fax_answer(output: &mut impl Write, answer: &FaxAnswer) -> io::Result<()> {
+    print(output, "gap", u8::from(answer.gap))?;
+    print(output, "octets", hex::write(&answer.octets))?;
+    print(output, "did", did_word(&answer.did))?;
+    match answer.did {
+        Did::Began {
+            hdlc,
+            modulation,
+            frequency,
+            stamp,
+        } => {
+            print(output, "hdlc", u8::from(hdlc))?;
+            print(output, "modulation", modulation)?;
+            print(output, "frequency", frequency)?;
+            print(output, "stamp", stamp)
+        }
+        Did::Stopped { stamp } => print(output, "stamp", stamp),
+        _ => Ok(()),
+    }
+}
+
 #[cfg(test)]
 mod tests {
     use super::*;
@@ -82,5 +117,33 @@ mod tests {
         let period = format!("period={}\n", "0f".repeat(10)).repeat(3);
         let wanted = format!("filled=0\nwith=00\ncarried=3\n{period}value=15\nalarm=1\n");
         assert_eq!(printed, wanted);
+    }
+    #[test]
+    fn fax_says_what_it_did() {
+        let printed = |gap, octets: &[u8], did| {
+            let octets = octets.to_vec();
+            text(|output| print_fax_answer(output, &FaxAnswer { gap, octets, did }))
+        };
+        let began = Did::Began {
+            hdlc: true,
+            modulation: 11,
+            frequency: 65535,
+            stamp: 32767,
+        };
+        let wanted = "gap=0\noctets=\ndid=began\nhdlc=1\nmodulation=11\n\
+                      frequency=65535\nstamp=32767\n";
+        assert_eq!(printed(false, &[], began), wanted);
+        let wanted = "gap=1\noctets=\ndid=stopped\nstamp=0\n";
+        assert_eq!(printed(true, &[], Did::Stopped { stamp: 0 }), wanted);
+        let plain = [
+            (Did::Nothing, "nothing"),
+            (Did::Added, "added"),
+            (Did::Ended, "ended"),
+            (Did::Aborted, "aborted"),
+        ];
+        for (did, word) in plain {
+            let wanted = format!("gap=1\noctets=0aff42\ndid={word}\n");
+            assert_eq!(printed(true, &[0x0a, 0xff, 0x42], did), wanted);
+        }
     }
 }

@@ -1,7 +1,8 @@
 //! The follow program of docs/FOLLOW.md: what one sub-channel's trunk does with
 //! a recording. It streams.
 
-use crate::answers::{print, print_digit_answer, print_signalling_answer};
+use crate::answers::{print, print_digit_answer, print_fax_answer, print_signalling_answer};
+use crate::fax_replay::{FaxAnswer, FaxReplay};
 use crate::frame::{open_frame, SubFrame};
 use crate::listing::{open_recording, print_frame_refusal, FieldLine, Fields};
 use crate::payload::{self, Content};
@@ -17,12 +18,14 @@ pub fn read_cid(word: &str) -> Option<u8> {
 }
 
 /// What a trunk does with an accepted payload.
-#[derive(Clone, Copy, Debug, PartialEq, Eq)]
+#[derive(Clone, Debug, PartialEq, Eq)]
 enum Answer {
     /// Digits were replayed.
     Digits(DigitAnswer),
     /// Signalling was replayed.
     Signalling(SignallingAnswer),
+    /// Fax was replayed.
+    Fax(FaxAnswer),
     /// A payload of another kind.
     Other,
 }
@@ -32,11 +35,12 @@ enum Answer {
 struct Trunk {
     digits: DigitReceiver,
     signalling: SignallingReceiver,
+    fax: FaxReplay,
 }
 
 impl Trunk {
-    /// Takes a payload of the sub-channel with its type: 11 to 16, and then
-    /// nothing changes, or the answer.
+    /// Takes a payload of the sub-channel with its type: 11 to 16, for fax 41 or
+    /// 42 after them, and then nothing changes, or the answer.
     fn take(&mut self, table: &Table, sub_frame: &SubFrame) -> Result<Answer, Refusal> {
         let SubFrame {
             cid,
@@ -47,6 +51,7 @@ impl Trunk {
         match payload::read(table, cid, payload_type, payload)? {
             Content::Digits(_) => self.digits.accept(payload).map(Answer::Digits),
             Content::Signalling(_) => self.signalling.accept(payload).map(Answer::Signalling),
+            Content::Fax(_) => self.fax.accept(payload).map(Answer::Fax),
             other => {
                 self.digits.accept_other(&other);
                 Ok(Answer::Other)
@@ -97,13 +102,18 @@ impl Follower {
         let answer = self.trunk.take(&self.table, sub_frame);
         print(output, "type", sub_frame.payload_type)?;
         print(output, "len", sub_frame.payload.len())?;
-        print(output, "answer", answer.err().unwrap_or(0))?;
+        let answer = match answer {
+            Ok(answer) => answer,
+            Err(refusal) => return print(output, "answer", refusal),
+        };
+        print(output, "answer", 0)?;
         match answer {
-            Ok(Answer::Digits(answer)) => print_digit_answer(output, &answer),
-            Ok(Answer::Signalling(answer)) => {
+            Answer::Digits(answer) => print_digit_answer(output, &answer),
+            Answer::Signalling(answer) => {
                 print_signalling_answer(output, &answer, &self.trunk.signalling)
             }
-            Ok(Answer::Other) | Err(_) => Ok(()),
+            Answer::Fax(answer) => print_fax_answer(output, &answer),
+            Answer::Other => Ok(()),
         }
     }
 }
@@ -317,6 +327,126 @@ mod tests {
         assert_eq!(frames(7, &["8703 800000"]), printed(0, 3, 3, 12));
         let output = frames(7, &["8701 0000 2005 2005 2005"]);
         assert!(output.starts_with(&(printed(0, 1, 8, 0) + "filled=0\n")));
+    }
+
+    /// A frame of one fax payload: type 3 on CID 5 or 6, type 0 on CID 7.
+    fn fax(cid: u8, payload: &str) -> String {
+        match cid {
+            7 => format!("07 {payload}"),
+            _ => format!("8{cid}03 {payload}"),
+        }
+    }
+
+    /// V.21 with HDLC on at 1000 ms, number 0.
+    const ON: &str = "81e803810000";
+
+    /// What is printed for one fax payload after others on its sub-channel, from
+    /// `answer=` on.
+    fn fax_after(cid: u8, before: &[&str], payload: &str) -> String {
+        let mut all: Vec<String> = before.iter().map(|it| fax(cid, it)).collect();
+        all.push(fax(cid, payload));
+        let all: Vec<&str> = all.iter().map(String::as_str).collect();
+        let output = frames(cid, &all);
+        let place = output.rfind("answer=").unwrap();
+        output[place..].to_string()
+    }
+
+    #[test]
+    fn fax_is_replayed_on_voice_and_fax_sub_channels() {
+        for cid in [5, 6, 7] {
+            let printed = |before: &[&str], payload| fax_after(cid, before, payload);
+            let wanted = "answer=0\ngap=0\noctets=\ndid=began\n\
+                          hdlc=1\nmodulation=1\nfrequency=0\nstamp=1000\n";
+            assert_eq!(printed(&[], ON), wanted);
+            let wanted = "answer=0\ngap=0\noctets=\ndid=nothing\n";
+            assert_eq!(printed(&[ON], ON), wanted);
+            assert_eq!(printed(&[], "a8dc05"), wanted);
+            let wanted = "answer=0\ngap=0\noctets=414243\ndid=added\n";
+            assert_eq!(printed(&[ON], "1a434241"), wanted);
+            let wanted = "answer=0\ngap=0\noctets=\ndid=added\n";
+            assert_eq!(printed(&[ON], "02434241"), wanted);
+            let wanted = "answer=0\ngap=1\noctets=424344\ndid=ended\n";
+            assert_eq!(printed(&[ON], "2b444342"), wanted);
+            let wanted = "answer=0\ngap=0\noctets=4243\ndid=aborted\n";
+            assert_eq!(printed(&[ON, "0a41ffff"], "24434241"), wanted);
+            let wanted = "answer=0\ngap=1\noctets=\ndid=stopped\nstamp=1500\n";
+            assert_eq!(printed(&[ON], "a8dc05"), wanted);
+        }
+    }
+
+    #[test]
+    fn refused_fax_prints_its_number_alone() {
+        let twelve = "0a 0c0b0a090807060504030201";
+        for cid in [5, 6, 7] {
+            assert_eq!(fax_after(cid, &[], "0a41ffff"), "answer=41\n");
+            assert_eq!(fax_after(cid, &[], twelve), "answer=41\n");
+            assert_eq!(fax_after(cid, &[ON], twelve), "answer=42\n");
+            assert_eq!(fax_after(cid, &[], "0a41ff"), "answer=13\n");
+            assert_eq!(fax_after(cid, &[], "0d41ffff"), "answer=14\n");
+        }
+        // A type that is not allowed reaches no replay.
+        assert_eq!(frames(7, &["8703 81e803810000"]), printed(0, 3, 6, 12));
+        assert_eq!(frames(8, &["8803 81e803810000"]), printed(0, 3, 6, 12));
+    }
+
+    #[test]
+    fn the_listing_never_gives_41_or_42() {
+        for payload in ["0a41ffff", "0a 0c0b0a090807060504030201", "23434241"] {
+            let frame = fax(7, payload).replace(' ', "");
+            let input = format!("{TEXT}frame={frame}\n");
+            let mut output = Vec::new();
+            crate::listing::run(input.as_bytes(), &mut output).unwrap();
+            assert!(output.ends_with(b"\nanswer=0\n"));
+        }
+    }
+
+    #[test]
+    fn voice_digits_and_signalling_change_nothing_of_the_fax_replay() {
+        let signalling = "8502 00 00000000000000000000 0000000000";
+        let other_fax = fax(6, "89e903020000");
+        for between in [VOICE, &tone(3), signalling, "8504", "85031f", &other_fax] {
+            let (on, data) = (fax(5, ON), fax(5, "124241ff"));
+            let output = frames(5, &[&on, between, &data]);
+            let wanted = printed(2, 3, 4, 0) + "gap=0\noctets=4142\ndid=added\n";
+            assert!(output.ends_with(&wanted), "{between}");
+            // Nor does it come between a command and its repeat.
+            let output = frames(5, &[&on, between, &on]);
+            assert!(output.ends_with("did=nothing\n"), "{between}");
+        }
+    }
+
+    #[test]
+    fn fax_changes_nothing_of_the_receivers() {
+        let began = fax(5, ON);
+        let data = fax(5, "0a41ffff");
+        let refused = fax(5, "0a 0c0b0a090807060504030201");
+        for between in [&began, &data, &refused] {
+            assert_eq!(fill_after(5, &[&began, between]), "with=010005");
+        }
+        let signalling = |number: u8| format!("8502 {number:02x} 1111111111 2222222222 3333333333");
+        let output = frames(5, &[&signalling(9), &began, &data, &signalling(10)]);
+        let wanted = "filled=0\nwith=00\ncarried=1\nperiod=03030303030303030303\n\
+                      value=3\nalarm=0\n";
+        assert!(output.ends_with(wanted));
+    }
+
+    #[test]
+    fn fax_payloads_of_one_frame_come_in_their_order() {
+        let frame = format!("c50306 {ON} c503040a41ffff c5030412 4241ff 850323434241");
+        let output = frames(5, &[&frame]);
+        let did = |line: &&str| line.starts_with("octets=") || line.starts_with("did=");
+        let lines: Vec<&str> = output.lines().filter(did).collect();
+        let wanted = [
+            "octets=",
+            "did=began",
+            "octets=41",
+            "did=added",
+            "octets=42",
+            "did=added",
+            "octets=43",
+            "did=ended",
+        ];
+        assert_eq!(lines, wanted);
     }
 
     #[test]

@@ -18,6 +18,7 @@ const USAGE: &str = "usage: second list
        second generate trial SEED COUNT
        second generate unit SEED COUNT
        second generate follow SEED COUNT
+       second generate fax SEED COUNT
        second histogram
        second bench";
 
@@ -63,6 +64,9 @@ fn run(words: &[&str]) -> io::Result<bool> {
         }
         ["generate", "follow", seed, count] => {
             generate::follow::run(number(seed)?, number(count)?, output())?
+        }
+        ["generate", "fax", seed, count] => {
+            generate::fax::run(number(seed)?, number(count)?, output())?
         }
         ["histogram"] => histogram::run(input(), output())?,
         ["bench"] => return bench::run(output()),

@@ -34,8 +34,8 @@ fn appends(step: Option<u8>) -> Appends {
     }
 }
 
-/// New sequence minus last, modulo 256 or 128.
-fn step(new: u8, last: u8, modulus: u16) -> u8 {
+/// New sequence minus last, modulo 256, 128 or, for fax, 16.
+pub fn step(new: u8, last: u8, modulus: u16) -> u8 {
     let step = (u16::from(new) + modulus - u16::from(last)) % modulus;
     step as u8
 }

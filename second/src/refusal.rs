@@ -1,4 +1,5 @@
-//! Document 01, "Refusal numbers": the table, a name for each number.
+//! Document 01, "Refusal numbers": the table, a name for each number; and those
+//! of document 02 (41 and 42: wish 1).
 
 /// A refusal number. 0 stands for "none" where a number is printed.
 pub type Refusal = u8;
@@ -51,3 +52,8 @@ pub const TEXT_VALUE_NOT_LISTED: Refusal = 32;
 pub const TEXT_CID_NOT_RISING: Refusal = 33;
 /// 34: provisioning: over 8,192 octets.
 pub const TEXT_TOO_LONG: Refusal = 34;
+/// 41: fax replay: data, end of frame or abort while no modulation is on.
+pub const NO_MODULATION_ON: Refusal = 41;
+/// 42: fax replay: data length against the modulation, or end of frame or abort
+/// without HDLC.
+pub const AGAINST_MODULATION: Refusal = 42;

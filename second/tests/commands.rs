@@ -75,13 +75,27 @@ fn the_example_of_follow() {
 }
 
 #[test]
+fn fax_is_followed() {
+    let input = b"cid=5\nsyntax=fax\nm=1\nseq=0\n\
+                  frame=050a41ffff\nframe=0581e803810000\nframe=051a434241\nframe=05a0dc05\n";
+    let wanted: &[u8] = b"frame=0\ntype=0\nlen=4\nanswer=41\n\
+                          frame=1\ntype=0\nlen=6\nanswer=0\ngap=0\noctets=\ndid=began\n\
+                          hdlc=1\nmodulation=1\nfrequency=0\nstamp=1000\n\
+                          frame=2\ntype=0\nlen=4\nanswer=0\ngap=0\noctets=414243\ndid=added\n\
+                          frame=3\ntype=0\nlen=3\nanswer=0\ngap=0\noctets=\ndid=stopped\n\
+                          stamp=1500\n";
+    assert_eq!(printed(&["follow", "5"], input), wanted);
+}
+
+#[test]
 fn the_generators_give_the_same_every_time() {
-    let commands: [&[&str]; 5] = [
+    let commands: [&[&str]; 6] = [
         &["generate", "list", "7", "500"],
         &["generate", "text", "12"],
         &["generate", "trial", "7", "500"],
         &["generate", "unit", "7", "500"],
         &["generate", "follow", "7", "500"],
+        &["generate", "fax", "7", "100"],
     ];
     for words in commands {
         let once = printed(words, b"");
@@ -117,28 +131,43 @@ fn generated_input_of_the_unit_is_answered_and_counted() {
     assert_eq!(counted(&output), wanted);
 }
 
-#[test]
-fn a_generated_recording_is_followed_by_its_first_cid_and_counted() {
+/// What following the first sub-channel of the recordings of some seeds prints.
+fn followed(kind: &str, seeds: std::ops::Range<u64>, count: &str) -> Vec<u8> {
     let mut all = Vec::new();
-    for seed in 0..10 {
-        let input = printed(&["generate", "follow", &seed.to_string(), "3000"], b"");
+    for seed in seeds {
+        let input = printed(&["generate", kind, &seed.to_string(), count], b"");
         let text = String::from_utf8_lossy(&input).into_owned();
         let cid = text.lines().next().unwrap().strip_prefix("cid=").unwrap();
         all.extend(printed(&["follow", cid], &input));
     }
-    let wanted = [0, 1, 2, 3, 4, 5, 6, 7, 8, 9, 12, 13, 14, 15, 16];
-    assert_eq!(counted(&all), wanted);
+    all
+}
+
+#[test]
+fn a_generated_recording_is_followed_by_its_first_cid_and_counted() {
+    let wanted = [0, 1, 2, 3, 4, 5, 6, 7, 8, 9, 12, 13, 14, 15, 16, 41, 42];
+    assert_eq!(counted(&followed("follow", 0..10, "3000")), wanted);
+}
+
+#[test]
+fn a_generated_fax_recording_is_followed_by_its_first_cid_and_counted() {
+    let counts = counted(&followed("fax", 0..4, "300"));
+    for number in [0, 13, 14, 41, 42] {
+        assert!(counts.contains(&number), "{number}");
+    }
 }
 
 #[test]
 fn a_wrong_command_line_is_told() {
-    let wrong: [&[&str]; 18] = [
+    let wrong: [&[&str]; 20] = [
         &[],
         &["lists"],
         &["generate", "list", "x", "1"],
         &["generate", "text"],
         &["generate", "unit", "1"],
         &["generate", "follow", "1", "1", "1"],
+        &["generate", "fax", "1"],
+        &["generate", "fax", "1", "-1"],
         &["bench", "1"],
         &["unit", "5"],
         &["follow"],

@@ -1,15 +1,21 @@
 //! `generate follow SEED COUNT`: a recording of COUNT lines for the follow
 //! program. The followed sub-channel is the first of the text.
 
-use super::frames::{field_of, line_of, Frames, Piece};
+use super::fax_calls::{call, fax_type};
+use super::frames::{field_of, fitting, line_of, Frames, Piece};
 use super::payloads::Drawer;
 use super::records::{kinds, record, records};
 use super::{print_lines, Random};
+use crate::frame::SUB_FRAMES;
 use crate::payload::{DIGITS, FAX, PRIMARY, SID, SIGNALLING};
-use crate::provisioning::{write_text, Record};
+use crate::provisioning::{write_text, Record, Syntax};
 use crate::refusal::Refusal;
 use crate::senders::{DigitEntry, DigitSender, Samples, SignallingSender};
+use std::collections::VecDeque;
 use std::io::{self, Write};
+
+/// The most octets of an HDLC frame; a page has half as many blocks.
+const MOST_FAX: usize = 10;
 
 /// Prints the recording of a seed.
 pub fn run(seed: u64, count: u64, mut output: impl Write) -> io::Result<()> {
@@ -47,6 +53,8 @@ struct Generator {
     loss_rate: usize,
     /// How many digits and how many signalling payloads are still lost.
     losses: [usize; 2],
+    /// The rest of a fax call on another sub-channel.
+    other_fax: VecDeque<Piece>,
 }
 
 impl Generator {
@@ -76,23 +84,26 @@ impl Generator {
             sample,
             loss_rate,
             losses: [0; 2],
+            other_fax: VecDeque::new(),
         })
     }
 
     /// One scene: some lines that belong together.
     fn scene(&mut self) {
         match self.random().below(100) {
-            0..=19 => self.dial(),
-            20..=26 => self.digit_gap(),
-            27..=39 => self.seizure(),
-            40..=45 => self.signalling_gap(),
-            46..=48 => self.quiet_run(),
-            49..=58 => self.voices(),
-            59..=68 => self.others(),
-            69..=73 => self.elsewhere(),
-            74..=77 => self.crowd(),
-            78..=79 => self.other_sub_channels(),
-            80..=81 => self.senders_anew(),
+            0..=12 => self.dial(),
+            13..=18 => self.digit_gap(),
+            19..=29 => self.seizure(),
+            30..=34 => self.signalling_gap(),
+            35..=37 => self.quiet_run(),
+            38..=45 => self.fax_call(),
+            46..=57 => self.fax_crowd(),
+            58..=65 => self.voices(),
+            66..=73 => self.others(),
+            74..=77 => self.elsewhere(),
+            78..=81 => self.crowd(),
+            82..=83 => self.other_sub_channels(),
+            84..=85 => self.senders_anew(),
             _ => self.any_lines(),
         }
     }
@@ -137,6 +148,11 @@ impl Generator {
     /// A piece of at most 255 octets on another sub-channel, now and then
     /// spoiled or on one that is not there.
     fn other_piece(&mut self) -> Piece {
+        if self.random().one_in(3) {
+            if let Some(piece) = self.other_fax_piece() {
+                return piece;
+            }
+        }
         loop {
             let spoil = self.random().one_in(4);
             let mut piece = self.frames.piece(spoil);
@@ -147,6 +163,41 @@ impl Generator {
                 return piece;
             }
         }
+    }
+
+    /// The next payload of a fax call on another sub-channel, if one takes fax.
+    fn other_fax_piece(&mut self) -> Option<Piece> {
+        if self.other_fax.is_empty() {
+            let cid = self.followed.cid;
+            let takes_fax = |it: &&Record| it.cid != cid && it.syntax != Syntax::Data;
+            let others: Vec<Record> = self
+                .frames
+                .records
+                .iter()
+                .filter(takes_fax)
+                .copied()
+                .collect();
+            if others.is_empty() {
+                return None;
+            }
+            let record = self.random().pick(&others);
+            self.other_fax = self.fax_pieces(&record).into();
+        }
+        self.other_fax.pop_front()
+    }
+
+    /// The payloads of a fax call on a sub-channel.
+    fn fax_pieces(&mut self, record: &Record) -> Vec<Piece> {
+        let mut pieces = Vec::new();
+        for payload in call(self.random(), MOST_FAX) {
+            pieces.push(Piece {
+                cid: record.cid,
+                payload_type: fax_type(record.syntax),
+                payload,
+                long: self.random().one_in(5),
+            });
+        }
+        pieces
     }
 
     /// How long a burst of losses is: mostly short, now and then round a wrap.
@@ -330,6 +381,37 @@ impl Generator {
             if place == 0 || place == step {
                 self.arrive(SIGNALLING, payload, true);
             }
+        }
+    }
+
+    /// A fax call, payload by payload; now and then something in between.
+    fn fax_call(&mut self) {
+        let followed = self.followed;
+        for piece in self.fax_pieces(&followed) {
+            self.put(piece.payload_type, piece.payload);
+            match self.random().below(40) {
+                0 => self.digits(2, Some(7)),
+                1 => {
+                    let samples = self.changing();
+                    self.send_period(samples);
+                }
+                2 => self.between(),
+                _ => {}
+            }
+        }
+    }
+
+    /// A fax call in as few frames as it fits into.
+    fn fax_crowd(&mut self) {
+        self.flush();
+        let followed = self.followed;
+        let mut pieces = self.fax_pieces(&followed);
+        while !pieces.is_empty() {
+            // Room is left for the other sub-channels.
+            let rest = pieces.split_off(fitting(&pieces, SUB_FRAMES - 3));
+            self.waiting = pieces;
+            self.flush();
+            pieces = rest;
         }
     }
 
@@ -575,7 +657,8 @@ mod tests {
             }
         }
         let numbers: Vec<u64> = seen.keys().copied().collect();
-        assert_eq!(numbers, [0, 1, 2, 3, 4, 5, 6, 7, 8, 9, 12, 13, 14, 15, 16]);
+        let wanted = [0, 1, 2, 3, 4, 5, 6, 7, 8, 9, 12, 13, 14, 15, 16, 41, 42];
+        assert_eq!(numbers, wanted);
         for (number, count) in seen {
             assert!(count >= 20, "refusal {number} only {count} times");
         }
@@ -616,7 +699,8 @@ mod tests {
         };
         for (syntax, seq) in kinds() {
             match (syntax, seq) {
-                (Syntax::Data | Syntax::Fax, _) => reached(syntax, seq, 0, &[0, 13, 14]),
+                (Syntax::Data, _) => reached(syntax, seq, 0, &[0, 13, 14]),
+                (Syntax::Fax, _) => reached(syntax, seq, 0, &[0, 13, 14, 41, 42]),
                 (Syntax::G7231, 0) => reached(syntax, seq, 0, &[0, 13, 14]),
                 (Syntax::G7231, _) => reached(syntax, seq, 0, &[0, 13, 14, 16]),
                 (_, 0) => reached(syntax, seq, 0, &[0, 13]),
@@ -630,7 +714,7 @@ mod tests {
                 reached(syntax, seq, 2, &[0, 13]);
             }
             if syntax.is_voice() {
-                reached(syntax, seq, 3, &[0, 13, 14]);
+                reached(syntax, seq, 3, &[0, 13, 14, 41, 42]);
                 reached(syntax, seq, 4, &[0, 13]);
             } else {
                 reached(syntax, seq, 3, &[12]);
@@ -693,5 +777,62 @@ mod tests {
         };
         assert!(fills("with=0100") > 50, "{}", fills("with=0100"));
         assert!(fills("with=000000") > 50, "{}", fills("with=000000"));
+    }
+    #[test]
+    fn fax_calls_reach_every_answer_beside_digits_and_signalling() {
+        // Not the data sub-channel, which takes no fax.
+        for seed in [0, 1, 2, 3, 4, 5, 6, 7, 9] {
+            let output = followed(&generated(seed, 1000));
+            let count = |line: &str| output.lines().filter(|it| *it == line).count();
+            let lines = [
+                "type=1",
+                "type=2",
+                "did=nothing",
+                "did=began",
+                "did=stopped",
+                "did=added",
+                "did=ended",
+                "did=aborted",
+                "gap=1",
+                "answer=41",
+                "answer=42",
+            ];
+            for line in lines {
+                assert!(count(line) >= 5, "seed {seed}: {line} {}", count(line));
+            }
+        }
+    }
+
+    #[test]
+    fn the_stored_run_shows_fax_beside_digits_and_signalling() {
+        let input = generated(7, 400);
+        let followed_first = Generator::new(7).unwrap().followed;
+        assert!(followed_first.syntax.is_voice());
+        let output = followed(&input);
+        for did in ["nothing", "began", "stopped", "added", "ended", "aborted"] {
+            assert!(output.contains(&format!("\ndid={did}\n")), "{did}");
+        }
+        for line in [
+            "type=1",
+            "type=2",
+            "type=3",
+            "gap=1",
+            "answer=41",
+            "answer=42",
+        ] {
+            assert!(output.contains(&format!("\n{line}\n")), "{line}");
+        }
+    }
+
+    #[test]
+    fn fax_calls_on_other_sub_channels_are_there_too() {
+        let mut generator = Generator::new(7).unwrap();
+        let followed = generator.followed.cid;
+        let table = crate::provisioning::Table::of(&generator.frames.records);
+        for _ in 0..500 {
+            let piece = generator.other_fax_piece().unwrap();
+            let record = table.record(piece.cid).unwrap();
+            assert!(piece.cid != followed && piece.payload_type == fax_type(record.syntax));
+        }
     }
 }

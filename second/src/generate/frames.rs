@@ -52,6 +52,17 @@ pub fn field_of(pieces: &[Piece]) -> Vec<u8> {
     field
 }
 
+/// How many of some pieces, from the first on, fit into one frame of at most so
+/// many sub-frames. Each piece has at most 255 octets.
+pub fn fitting(pieces: &[Piece], most: usize) -> usize {
+    let mut octets = 0;
+    let fits = |piece: &&Piece| {
+        octets += piece.payload.len() + 3;
+        octets <= FIELD_OCTETS
+    };
+    pieces.iter().take(most).take_while(fits).count()
+}
+
 /// A frame line without its LF.
 pub fn line_of(field: &[u8]) -> Vec<u8> {
     let mut line = b"frame=".to_vec();
@@ -434,5 +445,36 @@ impl Frames {
             _ => other.extend(&line[6..]),
         }
         other
+    }
+}
+
+#[cfg(test)]
+mod tests {
+    use super::*;
+    use crate::frame::{open_frame, SUB_FRAMES};
+
+    #[test]
+    fn what_fits_is_all_in_the_frame() {
+        for seed in 0..200 {
+            let mut random = Random::new(seed);
+            let most = random.between(1, SUB_FRAMES);
+            let longest = random.pick(&[4, 30, 80, 255]);
+            let pieces: Vec<Piece> = (0..80)
+                .map(|_| Piece {
+                    cid: random.small(4, 255),
+                    payload_type: random.small(0, 4),
+                    payload: vec![7; random.below(longest + 1)],
+                    long: random.one_in(2),
+                })
+                .collect();
+            let count = fitting(&pieces, most);
+            let field = field_of(&pieces[..count]);
+            assert!((1..=most).contains(&count) && field.len() <= FIELD_OCTETS);
+            assert_eq!(open_frame(&field).unwrap().count(), count);
+            // One more would not be sure to fit.
+            let octets = |it: &Piece| it.payload.len() + 3;
+            let more: usize = pieces[..=count].iter().map(octets).sum();
+            assert!(count == most || more > FIELD_OCTETS);
+        }
     }
 }

@@ -1,6 +1,8 @@
 //! Inputs made from a seed alone, for this program and the other one.
 
 pub mod contents;
+pub mod fax;
+pub mod fax_calls;
 pub mod follow;
 pub mod frames;
 pub mod list;

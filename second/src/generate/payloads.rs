@@ -133,7 +133,7 @@ impl<'r> Drawer<'r> {
     }
 
     /// A fax payload.
-    fn fax(&mut self) -> Vec<u8> {
+    pub fn fax(&mut self) -> Vec<u8> {
         let command = if self.wrong() {
             self.random.small(0, 7)
         } else {

@@ -14,15 +14,15 @@ const RESERVED_BITS: u8 = 0b0111_0000;
 const MODULATION: u8 = 0b0000_1111;
 
 /// Relay command 0: modulation off.
-const OFF: u8 = 0;
+pub const OFF: u8 = 0;
 /// Relay command 1: modulation on.
-const ON: u8 = 1;
+pub const ON: u8 = 1;
 /// Relay command 2: data.
-const DATA: u8 = 2;
+pub const DATA: u8 = 2;
 /// Relay command 3: HDLC end of frame.
-const END_OF_FRAME: u8 = 3;
+pub const END_OF_FRAME: u8 = 3;
 /// Relay command 4: HDLC frame abort; 5 to 7 are reserved.
-const ABORT: u8 = 4;
+pub const ABORT: u8 = 4;
 
 /// Modulation 0: single frequency tone, the only one with a frequency.
 const SINGLE_FREQUENCY_TONE: u8 = 0;
@@ -159,7 +159,7 @@ fn read_on(rest: &[u8]) -> Result<Command, Refusal> {
 }
 
 /// The number of a command.
-fn number_of(command: &Command) -> u8 {
+pub fn number_of(command: &Command) -> u8 {
     match command {
         Command::Off => OFF,
         Command::On { .. } => ON,
