@@ -1,1 +1,4 @@
+pub mod Runs
+pub mod Payloads
+pub mod Complete
 pub mod Examples
