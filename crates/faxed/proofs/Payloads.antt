@@ -2,10 +2,10 @@
 use Prim.Native.Nat.{ℕ, zero, suc, _+_, _%_, _^_, _≤_}
 use mathlib.Core.Path.{_≡_, refl, sym, ap, _∙_}
 use mathlib.Core.List.{List, [], _∷_, _++_, map, reverse, append-assoc}
-use mathlib.Core.Bool.{Bool, true, false, cond, _&&_}
+use mathlib.Core.Bool.{Bool, true, false, cond, and-false}
 use native.Mathlib.Omega.{arith}
 use borrow.Author.Tests.{eq-eqb, ne-eqb, lt-ltb}
-use lib.Dec.{eqb, ltb}
+use lib.Dec.{ltb}
 use lib.ListN.{length, take, replicate, length-reverse}
 use lib.Seq.{take-at, length-take-le}
 use Rattle.refusal.specs.Numbers.{sound}
@@ -86,19 +86,22 @@ on-runs hdlc modulation frequency n begun k tone fits rest =
     (joined (again n stamp on [] written hdlc modulation k refl refl) rest)
     refl
 
-never : (a b c d : Bool) → c ≡ false → (a && (b && (c && d))) ≡ false
-never true true c d e = rw e
-never true false c d e = refl
-never false b c d e = refl
-
-is-on : (b : Bool) → b && false ≡ false
-is-on true = refl
-is-on false = refl
-
 -- the count's first places hold the newest octets, oldest first
 handed-places : (count : ℕ) (body : List ℕ) → count ≤ length body → take count (handedOn count body) ≡ reverse (take count body)
 handed-places count body fits =
     take-at (reverse (take count body)) _ count (length-reverse (take count body) ∙ length-take-le count body fits)
+
+-- a step above 1 tells a gap
+pub gap-told : (lost : ℕ) → cond (ltb 1 (suc lost)) (gap ∷ []) [] ≡ gapAfter lost
+gap-told zero = refl
+gap-told (suc lost) = rw (lt-ltb 1 (suc (suc lost)) (omega arith))
+
+off-says :
+    (lost : ℕ) (r : Receiver) (n stopped : ℕ)
+    → handedBy (acting r n (Stamped stopped) Off [] (suc lost)) ++ [] ≡ gapAfter lost ++ stops stopped ∷ []
+unfolding acting
+off-says zero r n stopped = refl
+off-says (suc lost) r n stopped = rw (gap-told (suc lost))
 
 -- data, end-of-frame or abort: with a stamp or without, and the modulation stays in force
 record Carries (command : Command) : Type 0 where
@@ -117,7 +120,7 @@ may-lack : (stamp : Stamp) (command : Command) → unstamped NoStamp command ≡
 may-lack NoStamp command bare = bare
 may-lack (Stamped time) command bare = refl
 
--- a payload after others that were lost, at most 14 of them
+-- payload number m was taken just before, as many are lost, and the payload after number n comes
 module _ (hdlc : Bool) (modulation code m : ℕ) (before : Stamp) (n lost : ℕ) (after : n ≡ m + lost) (few : lost ≤ 14) where
   abbrev r : Receiver
   r = standing hdlc modulation code m before
@@ -130,10 +133,7 @@ module _ (hdlc : Bool) (modulation code m : ℕ) (before : Stamp) (n lost : ℕ)
       → 0 ≡ refusalOf r command (length body)
       → received r (payload (n + 1) stamp command body) ≡ acting r next stamp command body (suc lost)
   acts stamp command body written free =
-      new-acts (n + 1) stamp command body written r free
-      (never (threeTimes command) (eqb code (codeOf command)) (eqb (m % 2 ^ 4) next) (sameStamp before stamp)
-      (ne-eqb (m % 2 ^ 4) next (λ e. omega arith)))
-      (is-on (eqb (codeOf command) (codeOf Off)))
+      new-acts (n + 1) stamp command body written r free (simp (ne-eqb (m % 2 ^ 4) next (λ e. omega arith), and-false)) (simp and-false)
       ∙ ap (λ (k : ℕ). acting r next stamp command body (step 4 (m % 2 ^ 4) (k % 2 ^ 4))) (omega arith)
       ∙ ap (acting r next stamp command body) (fax-laws .steps m (suc lost) (omega arith))
 
@@ -147,63 +147,48 @@ module _ (hdlc : Bool) (modulation code m : ℕ) (before : Stamp) (n lost : ℕ)
       (adds : addCount hdlc command (suc lost) (length body) ≡ count)
       (has : count ≤ length body)
       (tells : cond (gapAt hdlc command (suc lost)) (gap ∷ []) [] ≡ gaps)
-      where
-    abbrev told : List Event → List Event
-    told es = gaps ++ (map page (reverse (take count body)) ++ (eventsOf (didBy command stamp) ++ es))
+    where
+      abbrev told : List Event → List Event
+      told es = gaps ++ (map page (reverse (take count body)) ++ (eventsOf (didBy command stamp) ++ es))
 
-    written : Passed next stamp command body
-    written =
-        let c = carries command needs in
-        record { stamped = may-lack stamp command (c .bare); sized = sized; taken = c .taken; four-bits = omega arith; in-range = fits }
+      written : Passed next stamp command body
+      written =
+          let c = carries command needs in
+          record { stamped = may-lack stamp command (c .bare); sized = sized; taken = c .taken; four-bits = omega arith; in-range = fits }
 
-    says : (es : List Event) → handedBy (acting r next stamp command body (suc lost)) ++ es ≡ told es
-    unfolding acting
-    says es =
-        rw (adds, handed-places count body has, tells)
-        (append-assoc (gaps ++ map page (reverse (take count body))) (eventsOf (didBy command stamp)) es ∙ append-assoc gaps _ _)
+      says : (es : List Event) → handedBy (acting r next stamp command body (suc lost)) ++ es ≡ told es
+      unfolding acting
+      says es =
+          rw (adds, handed-places count body has, tells)
+          (append-assoc (gaps ++ map page (reverse (take count body))) (eventsOf (didBy command stamp)) es ∙ append-assoc gaps _ _)
 
-    pub comes : {behind : List (List ℕ)} {es : List Event} {to : Receiver}
-        → Runs (standing hdlc modulation (codeOf command) (n + 1) stamp) behind es to
-        → Runs r (payload (n + 1) stamp command body ∷ behind) (told es) to
-    unfolding acting
-    comes {es} rest =
-        first {es = es} (acts stamp command body written (free code m before)) (rw (carries command needs .stays r next stamp) rest) (says es)
+      pub once-comes : {behind : List (List ℕ)} {es : List Event} {to : Receiver}
+          → Runs (standing hdlc modulation (codeOf command) (n + 1) stamp) behind es to
+          → Runs r (payload (n + 1) stamp command body ∷ behind) (told es) to
+      unfolding acting
+      once-comes {es} rest =
+          first {es = es} (acts stamp command body written (free code m before)) (rw (carries command needs .stays r next stamp) rest) (says es)
 
-    pub comes-thrice : {behind : List (List ℕ)} {es : List Event} {to : Receiver} (k : ℕ)
-        → threeTimes command ≡ true
-        → Runs (standing hdlc modulation (codeOf command) (n + 1) stamp) behind es to
-        → let p = payload (n + 1) stamp command body in
-        Runs r (p ∷ replicate k p ++ behind) (told es) to
-    comes-thrice k three rest =
-        comes (joined (again (n + 1) stamp command body written hdlc modulation k (free (codeOf command) (n + 1) stamp) three) rest)
+      pub thrice-comes : {behind : List (List ℕ)} {es : List Event} {to : Receiver} (k : ℕ)
+          → threeTimes command ≡ true
+          → Runs (standing hdlc modulation (codeOf command) (n + 1) stamp) behind es to
+          → let p = payload (n + 1) stamp command body in
+          Runs r (p ∷ replicate k p ++ behind) (told es) to
+      thrice-comes k three rest =
+          once-comes (joined (again (n + 1) stamp command body written hdlc modulation k (free (codeOf command) (n + 1) stamp) three) rest)
 
--- a step above 1 tells a gap
-pub gap-told : (lost : ℕ) → cond (ltb 1 (suc lost)) (gap ∷ []) [] ≡ gapAfter lost
-gap-told zero = refl
-gap-told (suc lost) = rw (lt-ltb 1 (suc (suc lost)) (omega arith))
-
--- modulation-off, which arrives once or more
-off-says : (lost : ℕ) (r : Receiver) (n stopped : ℕ)
-    → handedBy (acting r n (Stamped stopped) Off [] (suc lost)) ++ [] ≡ gapAfter lost ++ stops stopped ∷ []
-unfolding acting
-off-says zero r n stopped = refl
-off-says (suc lost) r n stopped = rw (gap-told (suc lost))
-
-pub off-runs :
-    (hdlc : Bool) (modulation code m : ℕ) (before : Stamp) (n lost stopped k : ℕ)
-    → n ≡ m + lost
-    → lost ≤ 14
-    → stopped ≤ 32767
-    → let p = payload (n + 1) (Stamped stopped) Off [] in
-    Runs (standing hdlc modulation code m before) (p ∷ replicate k p) (gapAfter lost ++ stops stopped ∷ []) freshReceiver
-unfolding bodySized acting
-off-runs hdlc modulation code m before n lost stopped k after few fits =
-    let stamp : Stamp = Stamped stopped in
-    let number : ℕ = (n + 1) % 2 ^ 4 in
-    let written : Passed number stamp Off [] =
-    record { stamped = refl; sized = refl; taken = refl; four-bits = omega arith; in-range = fits }
-    in
-    first (acts hdlc modulation code m before n lost after few stamp Off [] written refl)
-    (copies (payload (n + 1) stamp Off []) k
-    (read-as (n + 1) stamp Off [] written freshReceiver ∙ sym (idled freshReceiver number stamp Off [] 0 refl refl refl refl)))
-    (off-says lost (standing hdlc modulation code m before) number stopped)
+  -- modulation-off, which arrives once or more
+  pub off-runs : (stopped k : ℕ)
+      → stopped ≤ 32767
+      → let p = payload (n + 1) (Stamped stopped) Off [] in
+      Runs r (p ∷ replicate k p) (gapAfter lost ++ stops stopped ∷ []) freshReceiver
+  unfolding bodySized acting
+  off-runs stopped k fits =
+      let stamp : Stamp = Stamped stopped in
+      let written : Passed next stamp Off [] =
+      record { stamped = refl; sized = refl; taken = refl; four-bits = omega arith; in-range = fits }
+      in
+      let nothing : received freshReceiver (payload (n + 1) stamp Off []) ≡ nothingDone freshReceiver sound =
+      read-as (n + 1) stamp Off [] written freshReceiver ∙ sym (idled freshReceiver next stamp Off [] 0 refl refl refl refl)
+      in
+      first (acts stamp Off [] written refl) (copies (payload (n + 1) stamp Off []) k nothing) (off-says lost r next stopped)
