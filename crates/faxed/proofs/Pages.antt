@@ -1,0 +1,83 @@
+-- T.4 data without HDLC: what arrives is handed on, with a gap where payloads before it were lost.
+use Prim.Native.Nat.{ℕ, zero, suc, _+_, _<_, _≤_}
+use mathlib.Core.Path.{_≡_, refl, ap, _∙_}
+use mathlib.Core.List.{List, [], _∷_, _++_, map, reverse, append-assoc, reverse-reverse}
+use mathlib.Core.Bool.{Bool, true, false, _&&_, and-eq-true-iff, and-false}
+use native.Mathlib.Omega.{arith}
+use borrow.Author.Tests.{le-ltb, eq-eqb, ne-eqb}
+use lib.ListN.{length, getD, drop, length-reverse}
+use lib.Seq.{take-length}
+use Rattle.fax.specs.declared.Stamp.{Stamp}
+use Rattle.fax.specs.declared.Stamp.the-variants.{Stamped}
+use Rattle.fax.specs.declared.Command.the-variants.{On, Page}
+use Rattle.fax.specs.Fax.{codeOf, isPage, bodySized, toneRefused}
+use Rattle.faxing.specs.Replay.{freshReceiver, pageSizes}
+use Rattle.faxed.specs.Events.{stops}
+use Rattle.faxed.specs.Pages.{Block, Fate, arrives, lost, cameAfter, AllSized, FewLost, gapAfter, due, PagesHanded, allOf, PagesComplete}
+use Rattle.faxed.proofs.Runs.{Runs}
+use Rattle.faxed.proofs.Payloads.{standing, once-comes, on-runs, gap-told, off-runs}
+
+-- every modulation that carries pages has a length that can be written
+abbrev allPages : List ℕ → Bool
+allPages [] = true
+allPages (x ∷ xs) = isPage x && allPages xs
+
+one-of : (sizes : List ℕ) (i : ℕ) → allPages sizes ≡ true → i < length sizes → isPage (getD sizes i 0) ≡ true
+one-of [] i each less = absurd (omega arith)
+one-of (x ∷ xs) zero each less = and-eq-true-iff (isPage x) (allPages xs) .0 each .0
+one-of (x ∷ xs) (suc i) each less = one-of xs i (and-eq-true-iff (isPage x) (allPages xs) .0 each .1) (omega arith)
+
+page-sized : (modulation : ℕ) → 2 ≤ modulation → modulation ≤ 11 → isPage (getD pageSizes modulation 0) ≡ true
+unfolding isPage
+page-sized zero fast listed = absurd (omega arith)
+page-sized (suc zero) fast listed = absurd (omega arith)
+page-sized (suc (suc i)) fast listed = one-of (drop 2 pageSizes) i refl (omega arith)
+
+-- payload number m was taken last, and n was sent last
+module _ (modulation stopped again : ℕ) (fast : 2 ≤ modulation) (listed : modulation ≤ 11) (late : stopped ≤ 32767) where
+  ahead :
+      (fates : List Fate) (gone m n code : ℕ) (before : Stamp)
+      → n ≡ m + gone
+      → gone ≤ 14
+      → AllSized (getD pageSizes modulation 0) fates
+      → FewLost gone fates
+      → Runs (standing false modulation code m before) (cameAfter n fates stopped again) (due gone fates stopped) freshReceiver
+  unfolding bodySized
+  ahead [] gone m n code before is most sized few = off-runs false modulation code m before n gone is most stopped again late
+  ahead (lost b ∷ more) gone m n code before is most sized few =
+      ahead more (suc gone) m (n + 1) code before (omega arith) (few .0) (sized .2) (few .1)
+  ahead (arrives b ∷ more) gone m n code before is most sized few =
+      let body : List ℕ = reverse (b .octets) in
+      let many : length body ≡ getD pageSizes modulation 0 = length-reverse (b .octets) ∙ sized .0 in
+      rw (take-length body, reverse-reverse (b .octets)) at
+      (once-comes false modulation code m before n gone is most (b .stamp) Page body (length body) (gapAfter gone) refl
+      (ap isPage many ∙ page-sized modulation fast listed)
+      (sized .1)
+      (λ code m before. rw (eq-eqb (length body) (getD pageSizes modulation 0) many))
+      (rw (ne-eqb (suc gone) 0 (λ e. omega arith)))
+      (omega arith)
+      (gap-told gone)
+      (ahead more 0 (n + 1) (n + 1) (codeOf Page) (b .stamp) (omega arith) (omega arith) (sized .2) few))
+
+pub pages-handed : PagesHanded
+unfolding toneRefused
+pages-handed s honest =
+    on-runs false (s .modulation) 0 (s .first) (s .begun) (s .onAgain)
+    (simp (le-ltb 11 (s .modulation) (honest .listed), and-false))
+    (honest .begun)
+    (ahead (s .modulation) (s .stopped) (s .offAgain) (honest .fast) (honest .listed) (honest .stopped) (s .blocks) 0 (s .first) (s .first)
+    (codeOf (On false (s .modulation) 0))
+    (Stamped (s .begun))
+    (omega arith)
+    (omega arith)
+    (honest .sized)
+    (honest .few))
+    .hands
+
+-- where every payload arrives
+all-due : (blocks : List Block) (stopped : ℕ) → due 0 (map arrives blocks) stopped ≡ allOf blocks ++ stops stopped ∷ []
+all-due [] stopped = refl
+all-due (b ∷ more) stopped = rw (all-due more stopped, append-assoc)
+
+pub pages-complete : PagesComplete
+pages-complete s blocks honest all = rw (← (all-due blocks (s .stopped)), ← all) (pages-handed s honest)
