@@ -21,6 +21,19 @@ fn step_round(last: u16, new: u16, bits: u16) -> u16
     round(std::num::wrapping_sub_u16(new, last), bits)
 }
 
+// Counts of 4 bits: on by one, and the step.
+fn next_four(count: u8) -> u8
+    ensures { λ r. ⌜ r ≡ onward 4 count 1 ⌝ }
+{
+    round(std::num::wrapping_add_u16(count as u16, 1), 4) as u8
+}
+
+fn step_four(last: u8, new: u8) -> u8
+    ensures { λ r. ⌜ r ≡ step 4 last new ⌝ }
+{
+    step_round(last as u16, new as u16, 4) as u8
+}
+
 // The sequence of digit payloads (Annex A), of 8 bits.
 pub struct DigitCount(pub u8);
 
@@ -68,13 +81,13 @@ impl VoiceCount {
     pub fn next(self) -> Self
         ensures { λ r. ⌜ r .0 ≡ onward 4 (self .0) 1 ⌝ }
     {
-        VoiceCount(round(std::num::wrapping_add_u16(self.0 as u16, 1), 4) as u8)
+        VoiceCount(next_four(self.0))
     }
 
     pub fn step_to(self, new: VoiceCount) -> u8
         ensures { λ r. ⌜ r ≡ step 4 (self .0) (new .0) ⌝ }
     {
-        step_round(self.0 as u16, new.0 as u16, 4) as u8
+        step_four(self.0, new.0)
     }
 }
 
@@ -96,12 +109,12 @@ impl FaxCount {
     pub fn next(self) -> Self
         ensures { λ r. ⌜ r .0 ≡ onward 4 (self .0) 1 ⌝ }
     {
-        FaxCount(round(std::num::wrapping_add_u16(self.0 as u16, 1), 4) as u8)
+        FaxCount(next_four(self.0))
     }
 
     pub fn step_to(self, new: FaxCount) -> u8
         ensures { λ r. ⌜ r ≡ step 4 (self .0) (new .0) ⌝ }
     {
-        step_round(self.0 as u16, new.0 as u16, 4) as u8
+        step_four(self.0, new.0)
     }
 }

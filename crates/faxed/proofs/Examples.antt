@@ -9,12 +9,12 @@ use Rattle.faxed.specs.Examples.{Sent, ThreeLost, FillerAfterALostEnd, F
 pub met : Met
 unfolding faxMade isPage bodySized toneRefused
 met = (
-  record { numbered = omega arith; begun = omega arith; stopped = omega arith; tone = refl; stamps = (omega arith, (omega arith, (omega arith, (omega arith, (omega arith, tt))))); closed = refl },
+  record { begun = omega arith; stopped = omega arith; tone = refl; stamps = (omega arith, (omega arith, (omega arith, (omega arith, (omega arith, tt))))); closed = refl },
   some 0 (came (gone {lost = 0} (omega arith) (gone {lost = 1} (omega arith) (came (some 1 (some 0 all)))))),
 )
 
 pub pages-met : PagesMet
-pages-met = record { numbered = omega arith; begun = omega arith; stopped = omega arith; fast = omega arith; listed = omega arith; sized = (refl, omega arith, (refl, omega arith, (refl, omega arith, tt))); few = (omega arith, tt) }
+pages-met = record { begun = omega arith; stopped = omega arith; fast = omega arith; listed = omega arith; sized = (refl, omega arith, (refl, omega arith, (refl, omega arith, tt))); few = (omega arith, tt) }
 
 pub sent : Sent
 unfolding received takenBy acting faxRead faxMade frontOf commandOf isPage bodySized toneRefused

@@ -63,7 +63,6 @@ FewLost already (arrives b ∷ more) = FewLost 0 more
 FewLost already (lost b ∷ more) = (already < 14) × FewLost (suc already) more
 
 pub record HonestPages (s : PageCall) : Type 0 where
-  pub numbered : s .first ≤ 15
   pub begun : s .begun ≤ 32767
   pub stopped : s .stopped ≤ 32767
   pub fast : 2 ≤ s .modulation

@@ -77,7 +77,6 @@ StampsFit (close c stamp ∷ items) = (stampNumber stamp ≤ 32767) × StampsFit
 
 -- an honest call: every value can be written, and each frame is closed
 pub record Honest (s : FaxCall) : Type 0 where
-  pub numbered : s .first ≤ 15
   pub begun : s .begun ≤ 32767
   pub stopped : s .stopped ≤ 32767
   pub tone : toneRefused (s .modulation) (s .frequency) ≡ false
