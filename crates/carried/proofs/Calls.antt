@@ -12,7 +12,7 @@ use Rattle.contracts.proofs.Coming.{comes-of}
 use Rattle.refusal.specs.Numbers.{roomTooSmall}
 use Rattle.octets.specs.declared.Put.{Put}
 use Rattle.octets.specs.declared.Put.the-variants.{Written, NotWritten}
-use Rattle.octets.specs.Made.{Made, made, unmade, putMade, leftMade}
+use Rattle.octets.specs.Made.{Made, made, unmade, octetsOf, putMade, leftMade}
 use Rattle.octets.specs.Room.{put, written, leftBy}
 use Rattle.octets.proofs.Order.{either}
 use Rattle.record.specs.declared.table.Found.{Found}
@@ -42,7 +42,7 @@ use Rattle.trunk.specs.declared.Trunk.{Trunk}
 use Rattle.trunk.specs.declared.Told.{Told}
 use Rattle.trunk.specs.Trunk.{freshTrunk, taken}
 use Rattle.replay.specs.Periods.{Mark, Sublist}
-use Rattle.carried.specs.Emissions.{Emission, octetsOf}
+use Rattle.carried.specs.Emissions.{Emission}
 use Rattle.carried.specs.Digits as digits
 use Rattle.carried.specs.Signalling as signalling
 use Rattle.carried.specs.Trunks.{Coming, came, other, toldOf, dialledMarks, digitRecord, seizedMarks, signallingRecord}

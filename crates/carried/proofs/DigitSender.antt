@@ -7,7 +7,7 @@ use mathlib.Core.Option.{some}
 use native.Mathlib.Nat.{zero-add}
 use native.Mathlib.Omega.{arith}
 use lib.ListN.{getD}
-use Rattle.octets.specs.Made.{Made}
+use Rattle.octets.specs.Made.{Made, octetsOf}
 use Rattle.octets.proofs.Order.{either}
 use Rattle.counts.proofs.Laws.{laws}
 use Rattle.digits.specs.declared.layout.Window.{Window}
@@ -23,7 +23,7 @@ use Rattle.dialling.proofs.SenderBack.{split, fresh-proper, stays-proper, sent-
 use Rattle.dialling.proofs.SenderCases as cases
 use Rattle.replay.specs.Periods.{pay, Rising}
 use Rattle.replay.proofs.Sublists.{Each, rising-from}
-use Rattle.carried.specs.Emissions.{Emission, octetsOf}
+use Rattle.carried.specs.Emissions.{Emission}
 use Rattle.carried.specs.Digits.{numberAfter, emitted, emissions, sentOf, sentBy, periodOf}
 use Rattle.carried.proofs.DigitRule.{readPayload}
 

@@ -12,7 +12,7 @@ use lib.Dec.{eqb}
 use lib.ListN.{getD, drop}
 use lib.Seq.{drop-at}
 use Rattle.refusal.specs.Numbers.{sound, valueOutOfRange}
-use Rattle.octets.specs.Made.{Made}
+use Rattle.octets.specs.Made.{Made, octetsOf}
 use Rattle.octets.proofs.Order.{lt-or-le, either}
 use Rattle.counts.specs.Round.{onward}
 use Rattle.counts.proofs.Laws.{laws}
@@ -26,7 +26,7 @@ use Rattle.seizing.proofs.SenderCases.{refused}
 use Rattle.seizing.proofs.SenderBack.{sender-starts, sender-stays, payload-back}
 use Rattle.replay.specs.Periods.{pay, Rising}
 use Rattle.replay.proofs.Sublists.{Each, rising-from}
-use Rattle.carried.specs.Emissions.{Emission, octetsOf}
+use Rattle.carried.specs.Emissions.{Emission}
 use Rattle.carried.specs.Signalling.{tens, repeats, emitted, numberAfter, emissions, sentOf, sentBy, startPeriod, periodOf, TenEach}
 use Rattle.carried.proofs.Tens.{Three, tens-of}
 use Rattle.carried.proofs.SignallingRule.{readPayload}

@@ -7,6 +7,7 @@
 use Prim.Native.Nat.{ℕ, suc}
 use mathlib.Core.List.{List, [], _∷_, _++_, map}
 use lib.ListN.{getD, take, replicate}
+use Rattle.octets.specs.Made.{octetsOf}
 use Rattle.digits.specs.declared.layout.Window.{Window}
 use Rattle.dialling.specs.declared.Entry.{Entry}
 use Rattle.dialling.specs.declared.Sender.{Sender}
@@ -19,7 +20,7 @@ use Rattle.dialling.specs.Sender.{freshSender, windowIn, sending}
 use Rattle.dialled.specs.Receiver.{freshReceiver, farthest, received, voiceHeard}
 use Rattle.replay.specs.Periods.{Mark, filled, carried, Near, Sublist}
 use Rattle.replay.specs.Claims.{BothReplay}
-use Rattle.carried.specs.Emissions.{Emission, octetsOf}
+use Rattle.carried.specs.Emissions.{Emission}
 
 -- The sender's run over its entries, where n periods were sent before. An entry that is refused is no period; "Unsent periods
 -- have no number."

@@ -11,6 +11,7 @@ use mathlib.Core.Bool.{Bool, cond}
 use lib.Dec.{eqb}
 use lib.ListN.{length, getD, take, drop, replicate}
 use Rattle.refusal.specs.Numbers.{sound}
+use Rattle.octets.specs.Made.{octetsOf}
 use Rattle.seizing.specs.declared.Entry.{Entry}
 use Rattle.seizing.specs.declared.Sender.{Sender}
 use Rattle.seizing.specs.declared.Sent.{Sent}
@@ -21,7 +22,7 @@ use Rattle.seizing.specs.Sender.{started, sent}
 use Rattle.seized.specs.Receiver.{freshReceiver, farthest, received}
 use Rattle.replay.specs.Periods.{Mark, filled, carried, Near, Among, Sublist}
 use Rattle.replay.specs.Claims.{BothReplay}
-use Rattle.carried.specs.Emissions.{Emission, octetsOf}
+use Rattle.carried.specs.Emissions.{Emission}
 
 -- "the last payload is repeated .., sequence unchanged", where "Each sent period raises the sequence by one".
 abbrev pub repeats : Sender → Sent → Bool

@@ -2,4 +2,6 @@ pub mod Runs
 pub mod Payloads
 pub mod Complete
 pub mod Pages
+pub mod Trunks
+pub mod Tied
 pub mod Examples

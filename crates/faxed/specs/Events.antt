@@ -30,13 +30,13 @@ eventsOf Added = []
 eventsOf Ended = ends ∷ []
 eventsOf Aborted = aborts ∷ []
 
--- of one answer: the refusal, the gap, the octets, what was done
+-- of one answer: the refusal, the gap, so many of the octets, what was done
+abbrev pub eventsBy : ℕ → Bool → ℕ → List ℕ → Did → List Event
+eventsBy number missing count octets did =
+    cond (eqb number sound) [] (refused number ∷ []) ++ cond missing (gap ∷ []) [] ++ map page (take count octets) ++ eventsOf did
+
 abbrev pub handedBy : Received → List Event
-handedBy a =
-    cond (eqb (a .number) sound) [] (refused (a .number) ∷ [])
-    ++ cond (a .gap) (gap ∷ []) []
-    ++ map page (take (a .count) (a .octets))
-    ++ eventsOf (a .did)
+handedBy a = eventsBy (a .number) (a .gap) (a .count) (a .octets) (a .did)
 
 -- of payloads one after the other
 abbrev pub handed : Receiver → List (List ℕ) → List Event

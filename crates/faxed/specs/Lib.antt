@@ -2,4 +2,6 @@ pub mod Events
 pub mod Run
 pub mod Complete
 pub mod Pages
+pub mod Trunks
+pub mod Tied
 pub mod Examples

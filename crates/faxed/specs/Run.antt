@@ -4,7 +4,7 @@ use mathlib.Core.Path.{_≡_}
 use mathlib.Core.List.{List, [], _∷_, _++_}
 use mathlib.Core.Bool.{Bool, true, false}
 use lib.ListN.{replicate}
-use Rattle.octets.specs.Made.{Made, made, unmade}
+use Rattle.octets.specs.Made.{octetsOf}
 use Rattle.fax.specs.declared.Stamp.{Stamp}
 use Rattle.fax.specs.declared.Stamp.the-variants.{Stamped}
 use Rattle.fax.specs.declared.Command.{Command}
@@ -17,10 +17,6 @@ use Rattle.fax.specs.Fax.{faxMade, stampNumber, toneRefused}
 pub data Sending : Type 0 where
   once : List ℕ → Sending
   thrice : List ℕ → Sending
-
-abbrev pub octetsOf : Made → List ℕ
-octetsOf (made octets) = octets
-octetsOf (unmade number) = []
 
 -- the payload after n others, whose number is n modulo 16
 abbrev pub payload : ℕ → Stamp → Command → List ℕ → List ℕ

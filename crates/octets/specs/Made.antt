@@ -1,6 +1,6 @@
 -- What a layout makes of a content, for writing: its octets, or a refusal (document 01, "Refusal numbers").
 use Prim.Native.Nat.{ℕ}
-use mathlib.Core.List.{List}
+use mathlib.Core.List.{List, []}
 use lib.ListN.{length}
 use Rattle.octets.specs.declared.Put.{Put}
 use Rattle.octets.specs.declared.Put.the-variants.{NotWritten}
@@ -11,6 +11,11 @@ use Rattle.octets.specs.Room.{put, leftBy}
 pub data Made : Type 0 where
   made : List ℕ → Made
   unmade : ℕ → Made
+
+-- the octets; none of what cannot be made
+abbrev pub octetsOf : Made → List ℕ
+octetsOf (made octets) = octets
+octetsOf (unmade number) = []
 
 -- how many octets
 abbrev pub fitOf : Made → Fit
