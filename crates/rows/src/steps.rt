@@ -7,6 +7,7 @@ use crate::fold::windows;
 use crate::items::Place;
 use dialling::Sending;
 use digits::layout::Digits;
+use faxing::Did;
 use seizing::Sent;
 use signalling::layout::Signalling;
 
@@ -155,6 +156,67 @@ fn receive_signalling(items: &[u8], begin: Place) -> u64 {
     acc
 }
 
+// What modulation-on and -off bring: HDLC, modulation, frequency and stamp, 0 where there is none.
+fn modulated(acc: u64, hdlc: bool, modulation: u8, frequency: u16, stamp: u16) -> u64 {
+    fold(
+        fold(octet(fold(acc, flag(hdlc)), modulation), frequency as u64),
+        stamp as u64,
+    )
+}
+
+fn done(acc: u64, did: Did) -> u64 {
+    match did {
+        Did::Nothing => modulated(octet(acc, 0), false, 0, 0, 0),
+        Did::Began {
+            hdlc,
+            modulation,
+            frequency,
+            stamp,
+        } => modulated(octet(acc, 1), hdlc, modulation, frequency, stamp),
+        Did::Stopped(stamp) => modulated(octet(acc, 2), false, 0, 0, stamp),
+        Did::Added => modulated(octet(acc, 3), false, 0, 0, 0),
+        Did::Ended => modulated(octet(acc, 4), false, 0, 0, 0),
+        Did::Aborted => modulated(octet(acc, 5), false, 0, 0, 0),
+    }
+}
+
+// The octets that are handed on.
+fn page(start: u64, octets: &[u8], count: u8) -> u64 {
+    let mut acc = start;
+    let mut i: usize = 0;
+    let end = octets::least(octets::wide(count), octets.len());
+    while i < end {
+        acc = octet(acc, octets[i]);
+        i += 1;
+    }
+    acc
+}
+
+fn faxed(acc: u64, received: faxing::Received) -> u64 {
+    let octets = received.octets;
+    let did = received.did;
+    let said = fold(octet(acc, received.number), flag(received.gap));
+    done(
+        page(octet(said, received.count), &octets, received.count),
+        did,
+    )
+}
+
+// The items as payloads to one fax replay.
+fn receive_fax(items: &[u8], begin: Place) -> u64 {
+    let mut receiver = faxing::fresh();
+    let mut acc = crate::fold::FIRST;
+    let mut walk = begin;
+    while 0 < walk.left {
+        walk = crate::items::next(items, walk);
+        let octets = crate::items::octets_of(items, walk);
+        let answer = faxing::receive(receiver, octets);
+        receiver = answer.receiver;
+        acc = faxed(acc, answer);
+    }
+    acc
+}
+
 // The work of a row, by its letter; `n` is the walk over the items alone.
 pub fn work_of(row: u8, items: &[u8], begin: Place) -> u64 {
     match row {
@@ -162,6 +224,7 @@ pub fn work_of(row: u8, items: &[u8], begin: Place) -> u64 {
         b'e' => receive_digits(items, begin),
         b's' => send_signalling(items, begin),
         b't' => receive_signalling(items, begin),
+        b'x' => receive_fax(items, begin),
         b'n' => crate::items::walk(items, begin),
         _ => crate::fold::FIRST,
     }
