@@ -10,6 +10,7 @@ MOST_M = {"acelp": 6, "pcm": 12, "g727": 12, "g728": 12}
 SEQS = {"acelp": (0, 1), "g728": (0, 1), "g7231": (0, 1), "pcm": (1,), "g727": (1,), "data": (0,), "fax": (0,)}
 PCM = [40, 35, 30, 40, 35, 30, 25, 20, 15, 10, 25, 20, 15, 10]
 G727 = [10, 5, 10, 15, 15, 20, 25, 15, 5, 10, 20, 25, 20, 5, 25]
+PAGE = {2: 12, 3: 24, 4: 36, 5: 48, 6: 60, 7: 72, 8: 36, 9: 48, 10: 60, 11: 72}  # octets of T.4 data, by modulation
 
 
 # ---- the protocol's form ----
@@ -174,8 +175,46 @@ def signalling_payloads(entries):
     return sent
 
 
+def relay(number, command, body=b"", stamp=None):
+    """A fax payload."""
+    front = b"" if stamp is None else stamp.to_bytes(2, "little")
+    return bytes([(stamp is not None) << 7 | number % 16 << 3 | command]) + front + body
+
+
+def hdlc_call(modulation, frames, stamp):
+    """What a fax sender sends of frames (octets, closing command): a payload an octet, each command three times."""
+    number, window = 0, b"\xff\xff\xff"
+    sent = [relay(0, 1, bytes([128 | modulation, 0, 0]), stamp)] * 3
+    for content, closing in frames:
+        for octet in content:
+            number += 1
+            window = bytes([octet]) + window[:2]
+            sent.append(relay(number, 2, window))
+        number += 1
+        sent += [relay(number, closing, window)] * 3
+    return sent + [relay(number + 1, 0, stamp=stamp + 500)] * 3
+
+
+def page_call(modulation, parts, stamp):
+    """What it sends of a page's parts, without HDLC."""
+    sent = [relay(0, 1, bytes([modulation, 0, 0]), stamp)] * 3
+    sent += [relay(i + 1, 2, part) for i, part in enumerate(parts)]
+    return sent + [relay(len(parts) + 1, 0, stamp=stamp + 500)] * 3
+
+
 def one_in_twenty_lost(payloads):
     return [p for i, p in enumerate(payloads) if i % 20 != 13]
+
+
+def fax_data_lost(payloads):
+    """Of the data payloads 1 in 20 lost, and the next one too each third time; no command."""
+    data, out = 0, []
+    for p in payloads:
+        if p[0] % 8 == 2:
+            data += 1
+        if p[0] % 8 != 2 or data % 20 != 13 and data % 60 != 14:
+            out.append(p)
+    return out
 
 
 # ---- timing ----
@@ -243,6 +282,16 @@ def timing_t():
     return "t", b"", one_in_twenty_lost(signalling_payloads(sampled(800, 40))[:256])
 
 
+def timing_x():
+    """Ten fax calls of three V.21 frames and a page, the ten modulations in turn; data payloads lost, at most two in a row."""
+    rng = random.Random(5)
+    run = []
+    for i, (modulation, size) in enumerate(PAGE.items()):
+        frames = [(octets(rng, 90), 3), (octets(rng, 23), 3), (octets(rng, 34), 4 if i % 5 == 4 else 3)]
+        run += hdlc_call(1, frames, 3000 * i) + page_call(modulation, [octets(rng, size) for _ in range(3)], 3000 * i + 1000)
+    return "x", b"", fax_data_lost(run)
+
+
 def timing_h():
     """A frame of 8 sub-frames whose 6th is acelp voice on CID 5."""
     rng = random.Random(4)
@@ -259,7 +308,7 @@ def timing_p():
 
 
 TIMING = {"c1": lambda: timing_c(1), "c8": lambda: timing_c(8), "c64": lambda: timing_c(64), "r": timing_r, "w": timing_w,
-          "d": timing_d, "e": timing_e, "s": timing_s, "t": timing_t, "h": timing_h, "p": timing_p}
+          "d": timing_d, "e": timing_e, "s": timing_s, "t": timing_t, "x": timing_x, "h": timing_h, "p": timing_p}
 
 
 def timing(name, turns):
@@ -425,6 +474,32 @@ def compare_signalling_payloads(rng, row):
     return b"", compare_payloads(rng, signalling_payloads(run))
 
 
+def any_call(rng):
+    """A fax call of any modulation, with HDLC or without; some payloads stamped that need not be."""
+    modulation, stamp = rng.randrange(12), rng.randrange(32000)
+    if rng.random() < 0.5:
+        frames = [(octets(rng, rng.choice([0, 1, 2, 3, 8, 20, 40])), rng.choice([3, 3, 4])) for _ in range(rng.randint(0, 4))]
+        sent = hdlc_call(modulation, frames, stamp)
+    else:
+        sent = page_call(modulation, [octets(rng, PAGE.get(modulation, 3)) for _ in range(rng.randint(0, 30))], stamp)
+    if rng.random() < 0.2:
+        sent = [bytes([p[0] | 128]) + octets(rng, 1) + b"\0" + p[1:] if p[0] < 128 and rng.random() < 0.5 else p for p in sent]
+    return sent
+
+
+def compare_fax_payloads(rng, row):
+    """Calls lost, doubled, out of turn, damaged; neighbours exchanged, and other sound payloads between."""
+    sent = []
+    while len(sent) < 5000:
+        sent += any_call(rng)
+    items = []
+    for item in compare_payloads(rng, sent):
+        items.insert(len(items) - (rng.random() < 0.03), item)
+        if rng.random() < 0.03:
+            items.append(fax(rng))
+    return b"", items
+
+
 def compare_texts(rng, row):
     """Texts: sound, or with lines changed, exchanged, cut, too long."""
     items = []
@@ -459,7 +534,7 @@ def compare_texts(rng, row):
 
 COMPARE = {"c": compare_frames, "r": compare_frames, "h": compare_frames, "w": compare_material, "W": compare_material,
            "d": compare_digit_entries, "e": compare_digit_payloads, "s": compare_signalling_entries,
-           "t": compare_signalling_payloads, "p": compare_texts, "P": compare_texts}
+           "t": compare_signalling_payloads, "x": compare_fax_payloads, "p": compare_texts, "P": compare_texts}
 
 
 def compare(row, seed):

@@ -27,6 +27,7 @@ ROWS = {
     "e": "a step of the digit receiver",
     "s": "a step of the signalling sender",
     "t": "a step of the signalling receiver",
+    "x": "a step of the fax replay",
     "h": "the voice card, a frame of 8 sub-frames",
     "p": "the provisioning text at its largest",
 }

@@ -1,4 +1,5 @@
-/* Plain C of document 01's work, as plain.h has it: parsed in place, state behind pointers, no heap. */
+/* Plain C of document 01's work and document 02's fax replay, as plain.h has it: parsed in place, state behind pointers, no
+   heap. */
 #include "plain.h"
 
 #include <errno.h>
@@ -681,6 +682,100 @@ PLAIN unsigned signalling_receive(struct signalling_receiver *receiver, const ui
     receiver->heard = true;
     receiver->sequence = sequence;
     receiver->last = receiver->value = payload[15] >> 4;
+    return 0;
+}
+
+/* ---- Document 02, wish 1: the fax replay ---- */
+
+enum { HDLC_OCTETS = 3 };
+
+/* Data octets of a payload without HDLC, by modulation. */
+static const uint8_t page_octets[12] = {0, 0, 12, 24, 36, 48, 60, 72, 36, 48, 60, 72};
+
+/* Whether the modulation that is on takes a sound payload: 41, 42 in this order. End of frame and abort always have three
+   octets, so that they too fit under HDLC alone. */
+static inline unsigned modulation_check(const struct fax_receiver *receiver, unsigned command, size_t octets)
+{
+    if (command <= FAX_ON)
+        return 0;
+    if (!receiver->on)
+        return NONE_ON;
+    return octets == receiver->octets ? 0 : AGAINST_MODULATION;
+}
+
+/* Adds the `count` newest octets, which come newest first, oldest first. */
+static inline void fax_add(struct fax_answer *answer, const uint8_t *newest, unsigned count)
+{
+    unsigned i;
+    answer->count = count;
+    for (i = 0; i < count; i++)
+        answer->octets[i] = newest[count - 1 - i];
+}
+
+/* HDLC: so many octets are due since the payload before, of which three are there. */
+static inline void fax_add_due(struct fax_answer *answer, const uint8_t *newest, unsigned due)
+{
+    answer->gap = due > HDLC_OCTETS;
+    fax_add(answer, newest, due < HDLC_OCTETS ? due : HDLC_OCTETS);
+}
+
+static inline void fax_data(const struct fax_receiver *receiver, const uint8_t *newest, unsigned step,
+                            struct fax_answer *answer)
+{
+    answer->did = FAX_ADDED;
+    if (receiver->octets == HDLC_OCTETS) {
+        fax_add_due(answer, newest, step);
+    } else if (step > 0) {
+        answer->gap = step > 1;
+        fax_add(answer, newest, receiver->octets);
+    }
+}
+
+/* A command that is no repeat and is taken. */
+static inline void fax_act(struct fax_receiver *receiver, const struct fax *fax, const uint8_t *newest, unsigned step,
+                           struct fax_answer *answer)
+{
+    switch (fax->command) {
+    case FAX_OFF:
+        answer->did = FAX_STOPPED;
+        answer->gap = step > 1;
+        answer->stamp = fax->stamp;
+        receiver->on = false;
+        break;
+    case FAX_ON:
+        answer->did = FAX_BEGAN;
+        answer->hdlc = fax->hdlc;
+        answer->modulation = fax->modulation;
+        answer->frequency = fax->frequency;
+        answer->stamp = fax->stamp;
+        receiver->on = true;
+        receiver->octets = fax->hdlc ? HDLC_OCTETS : page_octets[fax->modulation];
+        break;
+    default:
+        answer->did = fax->command == FAX_END ? FAX_ENDED : FAX_ABORTED;
+        fax_add_due(answer, newest, step > 0 ? step - 1 : 0);
+    }
+}
+
+/* The first octet and the stamp tell a command from its repeat. */
+PLAIN unsigned fax_receive(struct fax_receiver *receiver, const uint8_t *payload, size_t length, struct fax_answer *answer)
+{
+    struct fax fax = {0};
+    unsigned number = fax_read(payload, length, &fax), step;
+    memset(answer, 0, sizeof *answer);
+    if (number == 0)
+        number = modulation_check(receiver, fax.command, length - fax.front);
+    if (number)
+        return number;
+    step = (fax.sequence - (receiver->head >> 3)) & 15;
+    if (fax.command == FAX_DATA)
+        fax_data(receiver, payload + fax.front, step, answer);
+    else if ((payload[0] == receiver->head && fax.stamp == receiver->stamp) || (fax.command == FAX_OFF && !receiver->on))
+        return 0;
+    else
+        fax_act(receiver, &fax, payload + fax.front, step, answer);
+    receiver->head = payload[0];
+    receiver->stamp = fax.stamp;
     return 0;
 }
 

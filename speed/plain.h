@@ -1,6 +1,7 @@
-/* Plain C of document 01's work: frames, payloads, writer, senders, receivers, provisioning text, listing.
-   "Document 01" is ../shared/documents/01-scope.md; a comment names its section. Functions that may refuse return the refusal
-   number, 0 where there is none. What an out-parameter holds beside a refusal has no meaning, unless said. */
+/* Plain C of document 01's work: frames, payloads, writer, senders, receivers, provisioning text, listing; and of document
+   02's fax replay. "Document 01" is ../shared/documents/01-scope.md, "document 02" 02-change-requests.md beside it; a comment
+   names its section or wish. Functions that may refuse return the refusal number, 0 where there is none. What an out-parameter
+   holds beside a refusal has no meaning, unless said. */
 #ifndef PLAIN_H
 #define PLAIN_H
 
@@ -39,6 +40,8 @@ enum {
     TEXT_VALUE = 32,
     TEXT_NOT_RISING = 33,
     TEXT_TOO_LONG = 34,
+    NONE_ON = 41,            /* fax data, end of frame or abort while no modulation is on */
+    AGAINST_MODULATION = 42, /* or as the modulation that is on does not have it */
     UNSENT = 255 /* of a sender: no refusal, but nothing is sent in this period */
 };
 
@@ -217,6 +220,30 @@ struct signalling_answer {
 PLAIN unsigned digit_receive(struct digit_receiver *receiver, const uint8_t *payload, size_t length, struct digit_answer *answer);
 PLAIN unsigned signalling_receive(struct signalling_receiver *receiver, const uint8_t *payload, size_t length,
                                   struct signalling_answer *answer);
+
+/* Document 02, wish 1: the fax replay. Beside a refusal the answer is all 0. A receiver of zeros is a fresh one. */
+struct fax_receiver {
+    bool on;
+    uint8_t octets; /* data octets of a payload under the modulation that is on: 3 under HDLC alone, 0 where none come */
+    uint8_t head;   /* first octet of the payload taken just before: whether stamped, sequence, command */
+    uint16_t stamp; /* its stamp, 0 where there is none */
+};
+
+/* What an accepted payload did: nothing where it is a repeat, or an off with none on. */
+enum did { FAX_NOTHING, FAX_BEGAN, FAX_STOPPED, FAX_ADDED, FAX_ENDED, FAX_ABORTED };
+
+struct fax_answer {
+    bool gap; /* before the octets */
+    uint8_t count;
+    uint8_t octets[72]; /* oldest first, the rest 0 */
+    uint8_t did;        /* after the octets */
+    bool hdlc;          /* this, modulation and frequency: of FAX_BEGAN alone */
+    uint8_t modulation;
+    uint16_t frequency;
+    uint16_t stamp; /* of FAX_BEGAN and FAX_STOPPED alone */
+};
+
+PLAIN unsigned fax_receive(struct fax_receiver *receiver, const uint8_t *payload, size_t length, struct fax_answer *answer);
 
 /* Listing program: from one file descriptor to another. Answers 0, or 1 where writing fails. */
 PLAIN int listing(int in, int out);

@@ -16,6 +16,7 @@ struct state {
     struct digit_receiver digit_receiver;
     struct signalling_sender signalling_sender;
     struct signalling_receiver signalling_receiver;
+    struct fax_receiver fax_receiver;
 };
 
 static inline uint64_t fold(uint64_t acc, uint32_t x)
@@ -311,6 +312,23 @@ static inline uint64_t row_signalling_receive(struct state *state, uint8_t *item
     return fold(acc, receiver->alarm);
 }
 
+/* x: the fax replay. */
+static inline uint64_t row_fax_receive(struct state *state, uint8_t *item, size_t length, uint64_t acc)
+{
+    struct fax_answer answer;
+    unsigned i;
+    acc = fold(acc, fax_receive(&state->fax_receiver, item, length, &answer));
+    acc = fold(acc, answer.gap);
+    acc = fold(acc, answer.count);
+    for (i = 0; i < answer.count; i++)
+        acc = fold(acc, answer.octets[i]);
+    acc = fold(acc, answer.did);
+    acc = fold(acc, answer.hdlc);
+    acc = fold(acc, answer.modulation);
+    acc = fold(acc, answer.frequency);
+    return fold(acc, answer.stamp);
+}
+
 /* h: what the voice card is handed. */
 static inline uint64_t row_hand(struct state *state, uint8_t *item, size_t length, uint64_t acc)
 {
@@ -413,6 +431,8 @@ static uint64_t run_row(uint8_t row, struct state *state, const struct items *it
         return each(state, items, row_signalling_send);
     case 't':
         return each(state, items, row_signalling_receive);
+    case 'x':
+        return each(state, items, row_fax_receive);
     case 'h':
         return each(state, items, row_hand);
     case 'p':

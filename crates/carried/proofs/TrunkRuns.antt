@@ -9,7 +9,7 @@ use Rattle.octets.proofs.Texts.{true-not-false}
 use Rattle.voice.specs.Voice.{voiceRead, bodyOctets, blockOctets}
 use Rattle.voice.specs.Voice as voice
 use Rattle.sid.specs.Sid.{sidRead}
-use Rattle.fax.specs.Fax.{faxRead, bodySized, commandOf}
+use Rattle.fax.specs.Fax.{faxRead, isPage, bodySized, toneRefused, commandOf}
 use Rattle.fax.specs.Fax as fax
 use Rattle.digits.specs.declared.layout.Digits.{Digits}
 use Rattle.digits.specs.Layout.{digitsRead}
@@ -27,11 +27,11 @@ use Rattle.carried.proofs.DigitRuns as digit-proofs
 use Rattle.carried.proofs.SignallingRuns as signalling-proofs
 
 amid-digits : map readingOf amidDigits ≡ otherReadings ++ signallingReading ∷ refused lengthWrong ∷ []
-unfolding voiceRead bodyOctets blockOctets voice.frontOf sidRead faxRead bodySized fax.frontOf commandOf digitsRead signallingRead allAllowed pairs halves onVoice
+unfolding voiceRead bodyOctets blockOctets voice.frontOf sidRead faxRead isPage bodySized toneRefused fax.frontOf commandOf digitsRead signallingRead allAllowed pairs halves onVoice
 amid-digits = refl
 
 amid-signalling : map readingOf amidSignalling ≡ otherReadings ++ digitsReading ∷ refused lengthWrong ∷ []
-unfolding voiceRead bodyOctets blockOctets voice.frontOf sidRead faxRead bodySized fax.frontOf commandOf digitsRead signallingRead allAllowed pairs halves onVoice
+unfolding voiceRead bodyOctets blockOctets voice.frontOf sidRead faxRead isPage bodySized toneRefused fax.frontOf commandOf digitsRead signallingRead allAllowed pairs halves onVoice
 amid-signalling = refl
 
 -- what a content is not
@@ -60,14 +60,14 @@ no-signalling : (ptype : ℕ) (octets : List ℕ) → isSeized (payloadRead acel
 no-signalling ptype octets is-not s e = true-not-false (sym (ap isSeized e) ∙ is-not)
 
 no-digits-amid : (cs : List Coming) → NoDigits acelp cs → NoDigits acelp (amidDigits ++ cs)
-unfolding voiceRead bodyOctets blockOctets voice.frontOf sidRead faxRead bodySized fax.frontOf commandOf digitsRead signallingRead allAllowed pairs halves onVoice
+unfolding voiceRead bodyOctets blockOctets voice.frontOf sidRead faxRead isPage bodySized toneRefused fax.frontOf commandOf digitsRead signallingRead allAllowed pairs halves onVoice
 no-digits-amid cs none =
-    (no-digits 0 (replicate 10 170) refl, (no-digits 4 [] refl, (no-digits 3 (128 ∷ 232 ∷ 3 ∷ []) refl, (no-digits 0 [] refl, (no-digits 9 [] refl, (no-digits 2 (129 ∷ replicate 15 255) refl, (no-digits 1 [] refl, none)))))))
+    (no-digits 0 (replicate 10 170) refl, (no-digits 4 [] refl, (no-digits 3 (10 ∷ 65 ∷ 255 ∷ 255 ∷ []) refl, (no-digits 3 (129 ∷ 232 ∷ 3 ∷ 129 ∷ 0 ∷ 0 ∷ []) refl, (no-digits 0 [] refl, (no-digits 9 [] refl, (no-digits 2 (129 ∷ replicate 15 255) refl, (no-digits 1 [] refl, none))))))))
 
 no-signalling-amid : (cs : List Coming) → NoSignalling acelp cs → NoSignalling acelp (amidSignalling ++ cs)
-unfolding voiceRead bodyOctets blockOctets voice.frontOf sidRead faxRead bodySized fax.frontOf commandOf digitsRead signallingRead allAllowed pairs halves onVoice
+unfolding voiceRead bodyOctets blockOctets voice.frontOf sidRead faxRead isPage bodySized toneRefused fax.frontOf commandOf digitsRead signallingRead allAllowed pairs halves onVoice
 no-signalling-amid cs none =
-    (no-signalling 0 (replicate 10 170) refl, (no-signalling 4 [] refl, (no-signalling 3 (128 ∷ 232 ∷ 3 ∷ []) refl, (no-signalling 0 [] refl, (no-signalling 9 [] refl, (no-signalling 1 (7 ∷ 0 ∷ 34 ∷ 5 ∷ 0 ∷ 0 ∷ 0 ∷ 0 ∷ []) refl, (no-signalling 2 [] refl, none)))))))
+    (no-signalling 0 (replicate 10 170) refl, (no-signalling 4 [] refl, (no-signalling 3 (10 ∷ 65 ∷ 255 ∷ 255 ∷ []) refl, (no-signalling 3 (129 ∷ 232 ∷ 3 ∷ 129 ∷ 0 ∷ 0 ∷ []) refl, (no-signalling 0 [] refl, (no-signalling 9 [] refl, (no-signalling 1 (7 ∷ 0 ∷ 34 ∷ 5 ∷ 0 ∷ 0 ∷ 0 ∷ 0 ∷ []) refl, (no-signalling 2 [] refl, none))))))))
 
 digits-each : (ps : List Emission) → NoDigits acelp (each amidDigits ps)
 digits-each [] = tt
@@ -89,7 +89,7 @@ of-signalling : (ps : List Emission) → payloadsOf (each amidSignalling ps) ≡
 of-signalling ps = payloads-each amidSignalling (λ cs. refl) ps
 
 pub runs : Runs
-unfolding voiceRead bodyOctets blockOctets voice.frontOf sidRead faxRead bodySized fax.frontOf commandOf digitsRead signallingRead allAllowed pairs halves onVoice
+unfolding voiceRead bodyOctets blockOctets voice.frontOf sidRead faxRead isPage bodySized toneRefused fax.frontOf commandOf digitsRead signallingRead allAllowed pairs halves onVoice
 runs =
     let given = digit-proofs.runs .given in
     let heard-first : digits.payloadsOf (digit-runs.amid digit-runs.first) ≡ payloadsOf (each amidDigits digit-runs.first) = digit-proofs.payloads-amid digit-runs.first ∙ sym (of-digits digit-runs.first) in

@@ -10,8 +10,8 @@ use Rattle.record.specs.declared.syntax.Syntax.the-variants.{Acelp}
 use Rattle.record.specs.declared.table.Found.{Found}
 use Rattle.record.specs.declared.table.Found.the-variants.{Provisioned}
 use Rattle.sid.specs.declared.Sid.the-variants.{Plain}
-use Rattle.fax.specs.declared.Stamp.the-variants.{Stamped}
-use Rattle.fax.specs.declared.Command.the-variants.{Off}
+use Rattle.fax.specs.declared.Stamp.the-variants.{NoStamp, Stamped}
+use Rattle.fax.specs.declared.Command.the-variants.{On, Page}
 use Rattle.digits.specs.Layout.{offWindow}
 use Rattle.payload.specs.Content.{Reading, reads, refused, speech, silent, faxed, dialled, seized, payloadRead}
 use Rattle.carried.specs.Emissions.{Emission}
@@ -22,10 +22,10 @@ use Rattle.carried.specs.Trunks.{Coming, came, other, DigitsGiven, Signa
 abbrev pub acelp : Found
 acelp = Provisioned (record { syntax = Acelp; m = 1; seq = false })
 
--- Payloads of other kinds, by type and octets: voice, a silence descriptor and fax; voice of no octet and a type that no
--- sub-channel has, which are refused.
+-- Payloads of other kinds, by type and octets: voice, a silence descriptor, fax data, which a trunk refuses with 41, and
+-- modulation-on; voice of no octet and a type that no sub-channel has, which are refused.
 abbrev pub others : List Coming
-others = other 0 (replicate 10 170) ∷ other 4 [] ∷ other 3 (128 ∷ 232 ∷ 3 ∷ []) ∷ other 0 [] ∷ other 9 [] ∷ []
+others = other 0 (replicate 10 170) ∷ other 4 [] ∷ other 3 (10 ∷ 65 ∷ 255 ∷ 255 ∷ []) ∷ other 3 (129 ∷ 232 ∷ 3 ∷ 129 ∷ 0 ∷ 0 ∷ []) ∷ other 0 [] ∷ other 9 [] ∷ []
 
 -- Among digits also signalling, and digits of no octet; among signalling also digits, and signalling of no octet.
 abbrev pub amidDigits : List Coming
@@ -43,7 +43,8 @@ abbrev pub otherReadings : List Reading
 otherReadings =
     reads (speech (record { 0 = 0 }) 0 (replicate 10 170))
     ∷ reads (silent Plain)
-    ∷ reads (faxed 0 (Stamped 1000) Off [])
+    ∷ reads (faxed 1 NoStamp Page (65 ∷ 255 ∷ 255 ∷ []))
+    ∷ reads (faxed 0 (Stamped 1000) (On true 1 0) [])
     ∷ refused lengthWrong
     ∷ refused typeNotAllowed
     ∷ []

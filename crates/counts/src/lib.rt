@@ -1,6 +1,6 @@
 // The counts of FRF.11 (document 01, "The digit count, the signalling count, the voice count and the data count"; document 02,
-// wish 1: the fax count): a type each, so that one never stands in for another. Each goes on by one and tells the step to another, round its width,
-// for every value that its type can hold.
+// wish 1: the fax count): a type each, so that one never stands in for another. Each goes on by one and tells the step to
+// another, round its width, for every value that its type can hold.
 ghost use mathlib.Core.Path.{_≡_};
 ghost use Prim.Native.Nat.{_%_, _^_, _<_};
 ghost use Rattle.counts.specs.Round.{onward, step};

@@ -17,8 +17,8 @@ use Rattle.fax.specs.Fax.{codeOf, isPage, bodySized}
 use Rattle.faxing.specs.Replay.{freshReceiver, needsModulation, threeTimes, addCount, gapAt, didBy}
 use Rattle.faxing.specs.Private.{refusalOf}
 use Rattle.faxed.specs.Events.{Event, page, stops, eventsOf}
-use Rattle.faxed.specs.Run.{Closing, whole, broken, Item, octet, close, commandOf, FaxCall, sentAfter, sent, closedAfter, StampsFit, Honest, Arrives, all, gone, came, some}
-use Rattle.faxed.specs.Complete.{closingEvent, eventOf, complete, HandedComplete, AllArrive, none, then, allComplete, CallsHandedComplete}
+use Rattle.faxed.specs.Run.{Closing, ended, aborted, Item, octet, close, commandOf, FaxCall, Fillers, sentAfter, sent, closedAfter, StampsFit, Honest, Arrives, all, gone, came, some}
+use Rattle.faxed.specs.Complete.{closingEvent, eventOf, complete, HandedComplete}
 use Rattle.faxed.proofs.Runs.{Runs, empty, joined}
 use Rattle.faxed.proofs.Payloads.{standing, on-runs, once-comes, thrice-comes, off-runs}
 
@@ -44,9 +44,9 @@ record Closes (modulation step : ℕ) (stamp : Stamp) (command : Command) (event
 
 closes : (modulation step : ℕ) (stamp : Stamp) (c : Closing) → Closes modulation step stamp (commandOf c) (closingEvent c)
 unfolding bodySized
-closes modulation step stamp whole =
+closes modulation step stamp ended =
     record { needs = refl; three = refl; sized = refl; free = λ code m before. refl; adds = refl; tells = refl; did = refl }
-closes modulation step stamp broken =
+closes modulation step stamp aborted =
     record { needs = refl; three = refl; sized = refl; free = λ code m before. refl; adds = refl; tells = refl; did = refl }
 
 -- payload number m was taken last, and n was sent last; where the frame is closed, none is lost
@@ -90,11 +90,11 @@ module _ (modulation stopped : ℕ) (late : stopped ≤ 32767) where
       (alike .three)
       (ahead items true 0 (n + 1) (n + 1) x y z (codeOf (commandOf c)) stamp (omega arith) (omega arith) (λ e. refl) (stamps .1) end rest))
 
-call-runs : (filler : ℕ) (s : FaxCall) {ps : List (List ℕ)} → Honest s → Arrives 0 (sent filler s) ps → Runs freshReceiver ps (complete s) freshReceiver
-call-runs filler s honest (some again rest) =
+pub call-runs : (f : Fillers) (s : FaxCall) {ps : List (List ℕ)} → Honest s → Arrives 0 (sent f s) ps → Runs freshReceiver ps (complete s) freshReceiver
+call-runs f s honest (some again rest) =
     let on : Command = On true (s .modulation) (s .frequency) in
     on-runs true (s .modulation) (s .frequency) (s .first) (s .begun) again (honest .tone) (honest .begun)
-    (ahead (s .modulation) (s .stopped) (honest .stopped) (s .items) true 0 (s .first) (s .first) filler filler filler (codeOf on) (Stamped (s .begun))
+    (ahead (s .modulation) (s .stopped) (honest .stopped) (s .items) true 0 (s .first) (s .first) (f .newest) (f .middle) (f .oldest) (codeOf on) (Stamped (s .begun))
     (omega arith)
     (omega arith)
     (λ e. refl)
@@ -103,11 +103,4 @@ call-runs filler s honest (some again rest) =
     rest)
 
 pub handed-complete : HandedComplete
-handed-complete filler s ps honest arrives = let run = call-runs filler s honest arrives in (run .hands, run .leaves)
-
-calls-run : (filler : ℕ) (calls : List FaxCall) {ps : List (List ℕ)} → AllArrive filler calls ps → Runs freshReceiver ps (allComplete calls) freshReceiver
-calls-run filler [] none = empty
-calls-run filler (s ∷ calls) (then honest arrives rest) = joined (call-runs filler s honest arrives) (calls-run filler calls rest)
-
-pub calls-handed-complete : CallsHandedComplete
-calls-handed-complete filler calls ps arrive = calls-run filler calls arrive .hands
+handed-complete f s ps honest arrives = let run = call-runs f s honest arrives in (run .hands, run .leaves)

@@ -4,7 +4,7 @@ use native.Mathlib.Omega.{arith}
 use Rattle.fax.specs.Fax.{frontOf, commandOf, isPage, bodySized, toneRefused, faxRead, faxMade}
 use Rattle.faxing.specs.Replay.{acting, takenBy, received}
 use Rattle.faxed.specs.Run.{all, gone, came, some}
-use Rattle.faxed.specs.Examples.{Sent, ThreeLost, FillerAfterALostEnd, FillerAfterAnEmptyFrame, LateData, LateOn, FrameOfFifteenLost, OffByTheLastData, OffBehindAnEmptyFrame, FourteenPagesLost, FifteenPagesLost, SixteenPagesLost, Met, PagesMet}
+use Rattle.faxed.specs.Examples.{Sent, BoundIsSharp, FillerAfterALostEnd, FillerAfterAnEmptyFrame, LateData, LateOff, LateEnd, EndLost, LateOn, FrameOfFifteenLost, OffByTheLastData, OffBehindAnEmptyFrame, FourteenPagesLost, FifteenPagesLost, SixteenPagesLost, Met, PagesMet}
 
 pub met : Met
 unfolding faxMade isPage bodySized toneRefused
@@ -20,9 +20,9 @@ pub sent : Sent
 unfolding received takenBy acting faxRead faxMade frontOf commandOf isPage bodySized toneRefused
 sent = refl
 
-pub three-lost : ThreeLost
+pub bound-is-sharp : BoundIsSharp
 unfolding received takenBy acting faxRead faxMade frontOf commandOf isPage bodySized toneRefused
-three-lost = refl
+bound-is-sharp = refl
 
 pub filler-after-a-lost-end : FillerAfterALostEnd
 unfolding received takenBy acting faxRead faxMade frontOf commandOf isPage bodySized toneRefused
@@ -35,6 +35,18 @@ filler-after-an-empty-frame = refl
 pub late-data : LateData
 unfolding received takenBy acting faxRead faxMade frontOf commandOf isPage bodySized toneRefused
 late-data = refl
+
+pub late-off : LateOff
+unfolding received takenBy acting faxRead faxMade frontOf commandOf isPage bodySized toneRefused
+late-off = refl
+
+pub late-end : LateEnd
+unfolding received takenBy acting faxRead faxMade frontOf commandOf isPage bodySized toneRefused
+late-end = refl
+
+pub end-lost : EndLost
+unfolding received takenBy acting faxRead faxMade frontOf commandOf isPage bodySized toneRefused
+end-lost = refl
 
 pub late-on : LateOn
 unfolding received takenBy acting faxRead faxMade frontOf commandOf isPage bodySized toneRefused

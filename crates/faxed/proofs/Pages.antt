@@ -13,25 +13,29 @@ use Rattle.fax.specs.declared.Command.the-variants.{On, Page}
 use Rattle.fax.specs.Fax.{codeOf, isPage, bodySized, toneRefused}
 use Rattle.faxing.specs.Replay.{freshReceiver, pageSizes}
 use Rattle.faxed.specs.Events.{stops}
-use Rattle.faxed.specs.Pages.{Block, Fate, arrives, lost, cameAfter, AllSized, FewLost, gapAfter, due, PagesHanded, allOf, PagesComplete}
+use Rattle.faxed.specs.Pages.{Block, Fate, arrives, lost, PageCall, cameAfter, came, sizeAt, AllSized, FewLost, HonestPages, gapAfter, due, allDue, PagesHanded, allOf, PagesComplete}
 use Rattle.faxed.proofs.Runs.{Runs}
 use Rattle.faxed.proofs.Payloads.{standing, once-comes, on-runs, gap-told, off-runs}
 
--- every modulation that carries pages has a length that can be written
-abbrev allPages : List ℕ → Bool
-allPages [] = true
-allPages (x ∷ xs) = isPage x && allPages xs
+-- the octets of 40 ms are the length that the replay asks, and one that can be written
+abbrev Fits : ℕ → Type 0
+Fits modulation = (sizeAt modulation ≡ getD pageSizes modulation 0) × (isPage (sizeAt modulation) ≡ true)
 
-one-of : (sizes : List ℕ) (i : ℕ) → allPages sizes ≡ true → i < length sizes → isPage (getD sizes i 0) ≡ true
-one-of [] i each less = absurd (omega arith)
-one-of (x ∷ xs) zero each less = and-eq-true-iff (isPage x) (allPages xs) .0 each .0
-one-of (x ∷ xs) (suc i) each less = one-of xs i (and-eq-true-iff (isPage x) (allPages xs) .0 each .1) (omega arith)
-
-page-sized : (modulation : ℕ) → 2 ≤ modulation → modulation ≤ 11 → isPage (getD pageSizes modulation 0) ≡ true
+sized-at : (modulation : ℕ) → 2 ≤ modulation → modulation ≤ 11 → Fits modulation
 unfolding isPage
-page-sized zero fast listed = absurd (omega arith)
-page-sized (suc zero) fast listed = absurd (omega arith)
-page-sized (suc (suc i)) fast listed = one-of (drop 2 pageSizes) i refl (omega arith)
+sized-at zero fast listed = absurd (omega arith)
+sized-at (suc zero) fast listed = absurd (omega arith)
+sized-at (suc (suc zero)) fast listed = (refl, refl)
+sized-at (suc (suc (suc zero))) fast listed = (refl, refl)
+sized-at (suc (suc (suc (suc zero)))) fast listed = (refl, refl)
+sized-at (suc (suc (suc (suc (suc zero))))) fast listed = (refl, refl)
+sized-at (suc (suc (suc (suc (suc (suc zero)))))) fast listed = (refl, refl)
+sized-at (suc (suc (suc (suc (suc (suc (suc zero))))))) fast listed = (refl, refl)
+sized-at (suc (suc (suc (suc (suc (suc (suc (suc zero)))))))) fast listed = (refl, refl)
+sized-at (suc (suc (suc (suc (suc (suc (suc (suc (suc zero))))))))) fast listed = (refl, refl)
+sized-at (suc (suc (suc (suc (suc (suc (suc (suc (suc (suc zero)))))))))) fast listed = (refl, refl)
+sized-at (suc (suc (suc (suc (suc (suc (suc (suc (suc (suc (suc zero))))))))))) fast listed = (refl, refl)
+sized-at (suc (suc (suc (suc (suc (suc (suc (suc (suc (suc (suc (suc i)))))))))))) fast listed = absurd (omega arith)
 
 -- payload number m was taken last, and n was sent last
 module _ (modulation stopped again : ℕ) (fast : 2 ≤ modulation) (listed : modulation ≤ 11) (late : stopped ≤ 32767) where
@@ -39,7 +43,7 @@ module _ (modulation stopped again : ℕ) (fast : 2 ≤ modulation) (listed : mo
       (fates : List Fate) (gone m n code : ℕ) (before : Stamp)
       → n ≡ m + gone
       → gone ≤ 14
-      → AllSized (getD pageSizes modulation 0) fates
+      → AllSized (sizeAt modulation) fates
       → FewLost gone fates
       → Runs (standing false modulation code m before) (cameAfter n fates stopped again) (due gone fates stopped) freshReceiver
   unfolding bodySized
@@ -48,20 +52,21 @@ module _ (modulation stopped again : ℕ) (fast : 2 ≤ modulation) (listed : mo
       ahead more (suc gone) m (n + 1) code before (omega arith) (few .0) (sized .2) (few .1)
   ahead (arrives b ∷ more) gone m n code before is most sized few =
       let body : List ℕ = reverse (b .octets) in
-      let many : length body ≡ getD pageSizes modulation 0 = length-reverse (b .octets) ∙ sized .0 in
+      let size = sized-at modulation fast listed in
+      let many : length body ≡ sizeAt modulation = length-reverse (b .octets) ∙ sized .0 in
       rw (take-length body, reverse-reverse (b .octets)) at
       (once-comes false modulation code m before n gone is most (b .stamp) Page body (length body) (gapAfter gone) refl
-      (ap isPage many ∙ page-sized modulation fast listed)
+      (ap isPage many ∙ size .1)
       (sized .1)
-      (λ code m before. rw (eq-eqb (length body) (getD pageSizes modulation 0) many))
+      (λ code m before. rw (eq-eqb (length body) (getD pageSizes modulation 0) (many ∙ size .0)))
       (rw (ne-eqb (suc gone) 0 (λ e. omega arith)))
       (omega arith)
       (gap-told gone)
       (ahead more 0 (n + 1) (n + 1) (codeOf Page) (b .stamp) (omega arith) (omega arith) (sized .2) few))
 
-pub pages-handed : PagesHanded
+pub pages-run : (s : PageCall) → HonestPages s → Runs freshReceiver (came s) (allDue s) freshReceiver
 unfolding toneRefused
-pages-handed s honest =
+pages-run s honest =
     on-runs false (s .modulation) 0 (s .first) (s .begun) (s .onAgain)
     (simp (le-ltb 11 (s .modulation) (honest .listed), and-false))
     (honest .begun)
@@ -72,7 +77,9 @@ pages-handed s honest =
     (omega arith)
     (honest .sized)
     (honest .few))
-    .hands
+
+pub pages-handed : PagesHanded
+pages-handed s honest = let run = pages-run s honest in (run .hands, run .leaves)
 
 -- where every payload arrives
 all-due : (blocks : List Block) (stopped : ℕ) → due 0 (map arrives blocks) stopped ≡ allOf blocks ++ stops stopped ∷ []
@@ -80,4 +87,4 @@ all-due [] stopped = refl
 all-due (b ∷ more) stopped = rw (all-due more stopped, append-assoc)
 
 pub pages-complete : PagesComplete
-pages-complete s blocks honest all = rw (← (all-due blocks (s .stopped)), ← all) (pages-handed s honest)
+pages-complete s blocks honest all = rw (← (all-due blocks (s .stopped)), ← all) (pages-handed s honest .0)

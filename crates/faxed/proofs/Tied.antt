@@ -33,5 +33,5 @@ calls-are-handed r0 ps0 es0 (goes-on r p ps x es call more) =
     ∙ ap (λ (y : Received). handedBy y ++ handed (y .receiver) ps) is
 
 pub calls-hand-complete : CallsHandComplete
-calls-hand-complete filler s came es honest arrives calls =
-    calls-are-handed freshReceiver came es calls ∙ handed-complete filler s came honest arrives .0
+calls-hand-complete f s came es honest arrives calls =
+    calls-are-handed freshReceiver came es calls ∙ handed-complete f s came honest arrives .0

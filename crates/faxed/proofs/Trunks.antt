@@ -98,5 +98,5 @@ trunk-hands found t (c ∷ cs) =
     refl
 
 pub trunk-hands-complete : TrunkHandsComplete
-trunk-hands-complete filler s found cs honest arrives =
-    trunk-hands found freshTrunk cs ∙ handed-complete filler s (faxAmong found cs) honest arrives .0
+trunk-hands-complete f s found cs honest arrives =
+    trunk-hands found freshTrunk cs ∙ handed-complete f s (faxAmong found cs) honest arrives .0

@@ -6,12 +6,12 @@ use mathlib.Core.Bool.{true}
 use Rattle.faxing.specs.declared.Receiver.{Receiver}
 use Rattle.faxing.specs.Replay.{freshReceiver}
 use Rattle.faxed.specs.Events.{Event, begins, page, ends, aborts, stops, handed, after}
-use Rattle.faxed.specs.Run.{Closing, whole, broken, Item, octet, close, FaxCall, Honest, sent, Arrives}
+use Rattle.faxed.specs.Run.{Closing, ended, aborted, Item, octet, close, FaxCall, Fillers, Honest, sent, Arrives}
 
--- all that was sent, in order; the filler is no part of it
+-- all that was sent, in order; the fillers are no part of it
 abbrev pub closingEvent : Closing → Event
-closingEvent whole = ends
-closingEvent broken = aborts
+closingEvent ended = ends
+closingEvent aborted = aborts
 
 abbrev pub eventOf : Item → Event
 eventOf (octet o stamp) = page o
@@ -21,26 +21,11 @@ abbrev pub complete : FaxCall → List Event
 complete s =
     begins true (s .modulation) (s .frequency) (s .begun) ∷ map eventOf (s .items) ++ stops (s .stopped) ∷ []
 
--- A replay with no modulation on hands on exactly what was sent: no gap, no refusal, nothing twice, and no filler octet, whatever
--- the fillers hold. No modulation is on then.
+-- A replay with no modulation on hands on exactly what was sent: no gap, no refusal, nothing twice. "The filler octets in the first two
+-- payloads after modulation-on are not page data": whatever the fillers hold, it is the same. No modulation is on then.
 abbrev pub HandedComplete : Type 0
 HandedComplete =
-    (filler : ℕ) (s : FaxCall) (came : List (List ℕ))
+    (f : Fillers) (s : FaxCall) (came : List (List ℕ))
     → Honest s
-    → Arrives 0 (sent filler s) came
+    → Arrives 0 (sent f s) came
     → (handed freshReceiver came ≡ complete s) × (after freshReceiver came ≡ freshReceiver)
-
--- The same of calls one after the other.
-pub data AllArrive (filler : ℕ) : List FaxCall → List (List ℕ) → Type 0 where
-  none : AllArrive filler [] []
-  then : {s : FaxCall} {calls : List FaxCall} {came behind : List (List ℕ)} → Honest s → Arrives 0 (sent filler s) came → AllArrive filler calls behind → AllArrive filler (s ∷ calls) (came ++ behind)
-
-abbrev pub allComplete : List FaxCall → List Event
-allComplete [] = []
-allComplete (s ∷ calls) = complete s ++ allComplete calls
-
-abbrev pub CallsHandedComplete : Type 0
-CallsHandedComplete =
-    (filler : ℕ) (calls : List FaxCall) (came : List (List ℕ))
-    → AllArrive filler calls came
-    → handed freshReceiver came ≡ allComplete calls

@@ -7,13 +7,13 @@ use mathlib.Core.Bool.{true, false}
 use lib.ListN.{replicate}
 use Rattle.fax.specs.declared.Stamp.the-variants.{NoStamp}
 use Rattle.faxing.specs.Replay.{freshReceiver}
-use Rattle.faxed.specs.Events.{Event, begins, page, gap, ends, aborts, stops, handed}
-use Rattle.faxed.specs.Run.{Sending, once, thrice, whole, Item, octet, close, FaxCall, Honest, sent, Arrives}
+use Rattle.faxed.specs.Events.{Event, begins, page, gap, ends, stops, refused, handed}
+use Rattle.faxed.specs.Run.{Sending, once, thrice, ended, Item, octet, close, FaxCall, ones, Honest, sent, Arrives}
 use Rattle.faxed.specs.Pages.{Block, arrives, lost, PageCall, HonestPages}
 
 -- A call of one frame with the octets 65 to 68 (41 to 44), and the payloads sent for it.
 abbrev frame : List ℕ → List Item
-frame [] = close whole NoStamp ∷ []
+frame [] = close ended NoStamp ∷ []
 frame (o ∷ os) = octet o NoStamp ∷ frame os
 
 abbrev pub call : FaxCall
@@ -32,7 +32,7 @@ on = 129 ∷ 232 ∷ 3 ∷ 129 ∷ 0 ∷ 0 ∷ []
 
 abbrev pub Sent : Type 0
 Sent =
-    sent 255 call
+    sent ones call
     ≡ thrice on
     ∷ once (10 ∷ 65 ∷ 255 ∷ 255 ∷ [])
     ∷ once (18 ∷ 66 ∷ 65 ∷ 255 ∷ [])
@@ -46,7 +46,7 @@ Sent =
 abbrev pub Met : Type 0
 Met =
     Honest call
-    × Arrives 0 (sent 255 call)
+    × Arrives 0 (sent ones call)
     (on
     ∷ (10 ∷ 65 ∷ 255 ∷ 255 ∷ [])
     ∷ (34 ∷ 68 ∷ 67 ∷ 66 ∷ [])
@@ -74,9 +74,9 @@ pageCall =
 abbrev pub PagesMet : Type 0
 PagesMet = HonestPages pageCall
 
--- The bound is sharp: with the first three data payloads lost, a gap is told, and 41 is missing.
-abbrev pub ThreeLost : Type 0
-ThreeLost =
+-- The bound is sharp: with the first three data payloads lost, a gap is told, and octet 65 is missing.
+abbrev pub BoundIsSharp : Type 0
+BoundIsSharp =
     handed freshReceiver
     (on
     ∷ (34 ∷ 68 ∷ 67 ∷ 66 ∷ [])
@@ -92,8 +92,8 @@ ThreeLost =
     ∷ stops 1500
     ∷ []
 
--- Filler octets are handed on where a closing is lost and the first frame is short. A frame of one octet, all of it lost but its
--- start: the first octet of the next frame brings ff 41 42.
+-- Filler octets are handed on where a closing is lost and the first frame is short. A frame of one octet,
+-- lost with its end: the first octet of the next frame brings ff 41 42 (hex).
 abbrev pub FillerAfterALostEnd : Type 0
 FillerAfterALostEnd =
     handed freshReceiver
@@ -106,7 +106,7 @@ FillerAfterALostEnd =
     ∷ page 66
     ∷ []
 
--- An empty frame whose end is lost: the first octet of the next frame brings ff 42.
+-- An empty frame whose end is lost: the first octet of the next frame brings ff 42 (hex).
 abbrev pub FillerAfterAnEmptyFrame : Type 0
 FillerAfterAnEmptyFrame =
     handed freshReceiver
@@ -133,6 +133,63 @@ LateData =
     ∷ page 255
     ∷ page 255
     ∷ page 65
+    ∷ []
+
+-- A copy of modulation-off that comes late stops the next call: its data is refused with 41.
+abbrev pub LateOff : Type 0
+LateOff =
+    handed freshReceiver
+    (on
+    ∷ (10 ∷ 65 ∷ 255 ∷ 255 ∷ [])
+    ∷ (19 ∷ 65 ∷ 255 ∷ 255 ∷ [])
+    ∷ (152 ∷ 220 ∷ 5 ∷ [])
+    ∷ (129 ∷ 208 ∷ 7 ∷ 129 ∷ 0 ∷ 0 ∷ [])
+    ∷ (152 ∷ 220 ∷ 5 ∷ [])
+    ∷ (10 ∷ 65 ∷ 255 ∷ 255 ∷ [])
+    ∷ [])
+    ≡ begins true 1 0 1000
+    ∷ page 65
+    ∷ ends
+    ∷ stops 1500
+    ∷ begins true 1 0 2000
+    ∷ gap
+    ∷ stops 1500
+    ∷ refused 41
+    ∷ []
+
+-- A copy of an end that comes late ends the next frame, with octets that were handed on before.
+abbrev pub LateEnd : Type 0
+LateEnd =
+    handed freshReceiver
+    (on
+    ∷ (10 ∷ 65 ∷ 255 ∷ 255 ∷ [])
+    ∷ (19 ∷ 65 ∷ 255 ∷ 255 ∷ [])
+    ∷ (26 ∷ 66 ∷ 65 ∷ 255 ∷ [])
+    ∷ (19 ∷ 65 ∷ 255 ∷ 255 ∷ [])
+    ∷ [])
+    ≡ begins true 1 0 1000
+    ∷ page 65
+    ∷ ends
+    ∷ page 66
+    ∷ gap
+    ∷ page 255
+    ∷ page 255
+    ∷ page 65
+    ∷ ends
+    ∷ []
+
+-- An end that is lost with all its copies: two frames become one, the last octet comes twice, and nothing tells it.
+abbrev pub EndLost : Type 0
+EndLost =
+    handed freshReceiver
+    (on
+    ∷ (10 ∷ 65 ∷ 255 ∷ 255 ∷ [])
+    ∷ (26 ∷ 66 ∷ 65 ∷ 255 ∷ [])
+    ∷ [])
+    ≡ begins true 1 0 1000
+    ∷ page 65
+    ∷ page 65
+    ∷ page 66
     ∷ []
 
 -- A copy of modulation-on that comes late begins the call anew, and octets come twice.

@@ -1,5 +1,5 @@
 -- T.4 data without HDLC (document 02, wish 1; FRF.11, D.4.2): what is handed on of what arrives. Proved in proofs/Pages.antt.
-use Prim.Native.Nat.{ℕ, zero, suc, _+_, _<_, _≤_}
+use Prim.Native.Nat.{ℕ, zero, suc, _+_, _*_, _/_, _<_, _≤_}
 use mathlib.Core.Path.{_≡_}
 use mathlib.Core.List.{List, [], _∷_, _++_, map, reverse}
 use mathlib.Core.Bool.{false}
@@ -8,8 +8,8 @@ use Rattle.fax.specs.declared.Stamp.{Stamp}
 use Rattle.fax.specs.declared.Stamp.the-variants.{Stamped}
 use Rattle.fax.specs.declared.Command.the-variants.{Off, On, Page}
 use Rattle.fax.specs.Fax.{stampNumber}
-use Rattle.faxing.specs.Replay.{freshReceiver, pageSizes}
-use Rattle.faxed.specs.Events.{Event, begins, page, gap, stops, handed}
+use Rattle.faxing.specs.Replay.{freshReceiver}
+use Rattle.faxed.specs.Events.{Event, begins, page, gap, stops, handed, after}
 use Rattle.faxed.specs.Run.{payload}
 
 -- the octets of one payload, oldest first; any may have a stamp
@@ -47,6 +47,13 @@ onOf s = payload (s .first) (Stamped (s .begun)) (On false (s .modulation) 0) []
 abbrev pub came : PageCall → List (List ℕ)
 came s = onOf s ∷ replicate (s .onAgain) (onOf s) ++ cameAfter (s .first) (s .blocks) (s .stopped) (s .offAgain)
 
+-- bits a second, by the codes of Figure D-7; a payload has the octets of 40 ms (D.3.4)
+abbrev pub rates : List ℕ
+rates = 0 ∷ 300 ∷ 2400 ∷ 4800 ∷ 7200 ∷ 9600 ∷ 12000 ∷ 14400 ∷ 7200 ∷ 9600 ∷ 12000 ∷ 14400 ∷ []
+
+abbrev pub sizeAt : ℕ → ℕ
+sizeAt modulation = getD rates modulation 0 * 40 / 8000
+
 -- every payload has the length of the modulation, which is neither a single tone nor V.21, and every stamp can be written
 abbrev pub blockOf : Fate → Block
 blockOf (arrives b) = b
@@ -67,7 +74,7 @@ pub record HonestPages (s : PageCall) : Type 0 where
   pub stopped : s .stopped ≤ 32767
   pub fast : 2 ≤ s .modulation
   pub listed : s .modulation ≤ 11
-  pub sized : AllSized (getD pageSizes (s .modulation) 0) (s .blocks)
+  pub sized : AllSized (sizeAt (s .modulation)) (s .blocks)
   pub few : FewLost 0 (s .blocks)
 
 -- what is due: the octets that arrived, in order, and a gap where, and only where, payloads before them were lost
@@ -80,11 +87,15 @@ due already [] stopped = gapAfter already ++ stops stopped ∷ []
 due already (arrives b ∷ more) stopped = gapAfter already ++ (map page (b .octets) ++ due 0 more stopped)
 due already (lost b ∷ more) stopped = due (suc already) more stopped
 
+abbrev pub allDue : PageCall → List Event
+allDue s = begins false (s .modulation) 0 (s .begun) ∷ due 0 (s .blocks) (s .stopped)
+
+-- A replay with no modulation on hands on what is due, and no modulation is on then.
 abbrev pub PagesHanded : Type 0
 PagesHanded =
     (s : PageCall)
     → HonestPages s
-    → handed freshReceiver (came s) ≡ begins false (s .modulation) 0 (s .begun) ∷ due 0 (s .blocks) (s .stopped)
+    → (handed freshReceiver (came s) ≡ allDue s) × (after freshReceiver (came s) ≡ freshReceiver)
 
 -- Where every payload arrives: what was sent, in order, without a gap.
 abbrev pub allOf : List Block → List Event

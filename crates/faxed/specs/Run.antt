@@ -18,22 +18,22 @@ pub data Sending : Type 0 where
   once : List ℕ → Sending
   thrice : List ℕ → Sending
 
--- the payload after n others, whose number is n modulo 16
+-- the payload number n, counted on from modulation-on; it is written modulo 16
 abbrev pub payload : ℕ → Stamp → Command → List ℕ → List ℕ
 payload n stamp command body = octetsOf (faxMade (n % 2 ^ 4) stamp command body)
 
 -- one after the other: an octet of the frame at hand, or the end of that frame by end-of-frame or abort; any of them may have a stamp
 pub data Closing : Type 0 where
-  whole : Closing
-  broken : Closing
+  ended : Closing
+  aborted : Closing
 
 pub data Item : Type 0 where
   octet : ℕ → Stamp → Item
   close : Closing → Stamp → Item
 
 abbrev pub commandOf : Closing → Command
-commandOf whole = EndOfFrame
-commandOf broken = Abort
+commandOf ended = EndOfFrame
+commandOf aborted = Abort
 
 -- a fax call: the number and the stamp of its modulation-on, the modulation, the items, the stamp of its modulation-off
 pub record FaxCall : Type 0 where
@@ -54,11 +54,20 @@ sentAfter n x y z (octet o stamp ∷ items) stopped =
 sentAfter n x y z (close c stamp ∷ items) stopped =
     thrice (payload (n + 1) stamp (commandOf c) (x ∷ y ∷ z ∷ [])) ∷ sentAfter (n + 1) x y z items stopped
 
--- a call, with this filler before its first octets ("all 1's", D.4.1: 255)
-abbrev pub sent : ℕ → FaxCall → List Sending
-sent filler s =
+-- What stands in the places of octets before the first: "all 1's" (D.4.1), 255 each.
+pub record Fillers : Type 0 where
+  pub newest : ℕ
+  pub middle : ℕ
+  pub oldest : ℕ
+
+abbrev pub ones : Fillers
+ones = record { newest = 255; middle = 255; oldest = 255 }
+
+-- a call
+abbrev pub sent : Fillers → FaxCall → List Sending
+sent f s =
     thrice (payload (s .first) (Stamped (s .begun)) (On true (s .modulation) (s .frequency)) [])
-    ∷ sentAfter (s .first) filler filler filler (s .items) (s .stopped)
+    ∷ sentAfter (s .first) (f .newest) (f .middle) (f .oldest) (s .items) (s .stopped)
 
 -- "each frame closed by end-of-frame or abort": so it stands before the items, and so behind them
 abbrev pub closedAfter : Bool → List Item → Bool

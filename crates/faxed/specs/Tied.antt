@@ -13,7 +13,7 @@ use Rattle.faxing.specs.declared.Received.{Received}
 use Rattle.faxing.specs.Replay.{freshReceiver, received}
 use Rattle.trunk.specs.Trunk.{freshTrunk, taken}
 use Rattle.faxed.specs.Events.{Event, handedBy, handed}
-use Rattle.faxed.specs.Run.{FaxCall, Honest, sent, Arrives}
+use Rattle.faxed.specs.Run.{FaxCall, Fillers, Honest, sent, Arrives}
 use Rattle.faxed.specs.Complete.{complete}
 use Rattle.fax.proofs.put_fax.Kinds as put-kinds
 use Rattle.fax.proofs.put_fax.Reads as put-reads
@@ -47,8 +47,8 @@ CallsAreHanded = (r : Receiver) (ps : List (List ℕ)) (es : List Event) → Cal
 
 abbrev pub CallsHandComplete : Type 0
 CallsHandComplete =
-    (filler : ℕ) (s : FaxCall) (came : List (List ℕ)) (es : List Event)
+    (f : Fillers) (s : FaxCall) (came : List (List ℕ)) (es : List Event)
     → Honest s
-    → Arrives 0 (sent filler s) came
+    → Arrives 0 (sent f s) came
     → Calls freshReceiver came es
     → es ≡ complete s

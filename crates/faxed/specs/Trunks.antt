@@ -12,7 +12,7 @@ use Rattle.trunk.specs.declared.Trunk.{Trunk}
 use Rattle.trunk.specs.declared.Told.{Told}
 use Rattle.trunk.specs.Trunk.{freshTrunk, taken}
 use Rattle.faxed.specs.Events.{Event, eventsBy, handed}
-use Rattle.faxed.specs.Run.{FaxCall, Honest, sent, Arrives}
+use Rattle.faxed.specs.Run.{FaxCall, Fillers, Honest, sent, Arrives}
 use Rattle.faxed.specs.Complete.{complete}
 
 pub record Coming : Type 0 where
@@ -49,7 +49,7 @@ TrunkHands = (found : Found) (t : Trunk) (cs : List Coming) → trunkHanded foun
 -- So an honest HDLC run is handed on complete by a trunk too, whatever comes between.
 abbrev pub TrunkHandsComplete : Type 0
 TrunkHandsComplete =
-    (filler : ℕ) (s : FaxCall) (found : Found) (cs : List Coming)
+    (f : Fillers) (s : FaxCall) (found : Found) (cs : List Coming)
     → Honest s
-    → Arrives 0 (sent filler s) (faxAmong found cs)
+    → Arrives 0 (sent f s) (faxAmong found cs)
     → trunkHanded found freshTrunk cs ≡ complete s

@@ -2,7 +2,7 @@
 use mathlib.Core.Path.{refl}
 use Rattle.fax.specs.Fax.{frontOf, commandOf, isPage, bodySized, toneRefused, faxRead}
 use Rattle.faxing.specs.Replay.{acting, takenBy, received}
-use Rattle.faxing.specs.Examples.{EveryPayload, TwoLostFirst, TwoLostLast, ThreeLost, FourLostBeforeAnEnd, OutOfPlace, AtTwelveOctets, SingleTone, AnotherStamp, SameOn}
+use Rattle.faxing.specs.Examples.{EveryPayload, TwoLostFirst, TwoLostLast, ThreeLost, FourLostBeforeAnEnd, ThreeLostBeforeAnEnd, OutOfPlace, AtTwelveOctets, SingleTone, AnotherStamp, SameOn}
 
 pub every-payload : EveryPayload
 unfolding received takenBy acting faxRead frontOf commandOf isPage bodySized toneRefused
@@ -23,6 +23,10 @@ three-lost = refl
 pub four-lost-before-an-end : FourLostBeforeAnEnd
 unfolding received takenBy acting faxRead frontOf commandOf isPage bodySized toneRefused
 four-lost-before-an-end = refl
+
+pub three-lost-before-an-end : ThreeLostBeforeAnEnd
+unfolding received takenBy acting faxRead frontOf commandOf isPage bodySized toneRefused
+three-lost-before-an-end = refl
 
 pub out-of-place : OutOfPlace
 unfolding received takenBy acting faxRead frontOf commandOf isPage bodySized toneRefused

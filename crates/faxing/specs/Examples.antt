@@ -19,12 +19,12 @@ pub record Handed : Type 0 where
   pub octets : List ℕ
   pub did : Did
 
-abbrev pub handedBy : Received → Handed
-handedBy a = record { number = a .number; gap = a .gap; octets = take (a .count) (a .octets); did = a .did }
+abbrev pub toldBy : Received → Handed
+toldBy a = record { number = a .number; gap = a .gap; octets = take (a .count) (a .octets); did = a .did }
 
-abbrev pub handed : Receiver → List (List ℕ) → List Handed
-handed r [] = []
-handed r (payload ∷ payloads) = handedBy (received r payload) ∷ handed (received r payload .receiver) payloads
+abbrev pub told : Receiver → List (List ℕ) → List Handed
+told r [] = []
+told r (payload ∷ payloads) = toldBy (received r payload) ∷ told (received r payload .receiver) payloads
 
 abbrev hands : Bool → List ℕ → Did → Handed
 hands gap octets did = record { number = sound; gap = gap; octets = octets; did = did }
@@ -36,10 +36,10 @@ refuses number = record { number = number; gap = false; octets = []; did = Nothi
 abbrev on : List ℕ
 on = 129 ∷ 232 ∷ 3 ∷ 129 ∷ 0 ∷ 0 ∷ []
 
--- The first three octets of a frame, all payloads arriving: each command acts once.
+-- A frame of three octets, 65 to 67 (hex 41 to 43), all payloads arriving: each command acts once.
 abbrev pub EveryPayload : Type 0
 EveryPayload =
-    handed freshReceiver
+    told freshReceiver
     (on
     ∷ on
     ∷ on
@@ -70,7 +70,7 @@ EveryPayload =
 -- The first two data payloads lost: the third brings all three.
 abbrev pub TwoLostFirst : Type 0
 TwoLostFirst =
-    handed freshReceiver
+    told freshReceiver
     (on
     ∷ (26 ∷ 67 ∷ 66 ∷ 65 ∷ [])
     ∷ (35 ∷ 67 ∷ 66 ∷ 65 ∷ [])
@@ -85,7 +85,7 @@ TwoLostFirst =
 -- The last two lost: the end brings them.
 abbrev pub TwoLostLast : Type 0
 TwoLostLast =
-    handed freshReceiver
+    told freshReceiver
     (on
     ∷ (10 ∷ 65 ∷ 255 ∷ 255 ∷ [])
     ∷ (35 ∷ 67 ∷ 66 ∷ 65 ∷ [])
@@ -97,10 +97,10 @@ TwoLostLast =
     ∷ hands false [] (Stopped 1500)
     ∷ []
 
--- Three data payloads lost before a data payload: a gap is told, and 41 is missing.
+-- Three data payloads lost before a data payload: a gap is told, and octet 65 is missing.
 abbrev pub ThreeLost : Type 0
 ThreeLost =
-    handed freshReceiver
+    told freshReceiver
     (on
     ∷ (34 ∷ 68 ∷ 67 ∷ 66 ∷ [])
     ∷ (43 ∷ 68 ∷ 67 ∷ 66 ∷ [])
@@ -115,7 +115,7 @@ ThreeLost =
 -- Four lost before an end: the same.
 abbrev pub FourLostBeforeAnEnd : Type 0
 FourLostBeforeAnEnd =
-    handed freshReceiver
+    told freshReceiver
     (on
     ∷ (43 ∷ 68 ∷ 67 ∷ 66 ∷ [])
     ∷ (176 ∷ 220 ∷ 5 ∷ [])
@@ -125,10 +125,23 @@ FourLostBeforeAnEnd =
     ∷ hands false [] (Stopped 1500)
     ∷ []
 
--- 41 with none on, 42 against the modulation; an off with none on changes nothing; an on while on.
+-- Three lost before an end, which brings them: no gap.
+abbrev pub ThreeLostBeforeAnEnd : Type 0
+ThreeLostBeforeAnEnd =
+    told freshReceiver
+    (on
+    ∷ (35 ∷ 67 ∷ 66 ∷ 65 ∷ [])
+    ∷ (168 ∷ 220 ∷ 5 ∷ [])
+    ∷ [])
+    ≡ hands false [] (Began true 1 0 1000)
+    ∷ hands false (65 ∷ 66 ∷ 67 ∷ []) Ended
+    ∷ hands false [] (Stopped 1500)
+    ∷ []
+
+-- Refusal 41 with none on, 42 against the modulation; an off with none on changes nothing; an on while on.
 abbrev pub OutOfPlace : Type 0
 OutOfPlace =
-    handed freshReceiver
+    told freshReceiver
     ((10 ∷ 65 ∷ 255 ∷ 255 ∷ [])
     ∷ (35 ∷ 67 ∷ 66 ∷ 65 ∷ [])
     ∷ (168 ∷ 220 ∷ 5 ∷ [])
@@ -151,7 +164,7 @@ OutOfPlace =
 -- T.4 at 2400 bit/s, oldest octet first; a step of 0 adds nothing, one of 2 tells a gap.
 abbrev pub AtTwelveOctets : Type 0
 AtTwelveOctets =
-    handed freshReceiver
+    told freshReceiver
     ((129 ∷ 232 ∷ 3 ∷ 2 ∷ 0 ∷ 0 ∷ [])
     ∷ (10 ∷ 12 ∷ 11 ∷ 10 ∷ 9 ∷ 8 ∷ 7 ∷ 6 ∷ 5 ∷ 4 ∷ 3 ∷ 2 ∷ 1 ∷ [])
     ∷ (10 ∷ 238 ∷ 238 ∷ 238 ∷ 238 ∷ 238 ∷ 238 ∷ 238 ∷ 238 ∷ 238 ∷ 238 ∷ 238 ∷ 238 ∷ [])
@@ -168,7 +181,7 @@ AtTwelveOctets =
 -- A single tone of 1,100 Hz carries no data.
 abbrev pub SingleTone : Type 0
 SingleTone =
-    handed freshReceiver
+    told freshReceiver
     ((129 ∷ 232 ∷ 3 ∷ 0 ∷ 76 ∷ 4 ∷ [])
     ∷ (10 ∷ 65 ∷ 255 ∷ 255 ∷ [])
     ∷ (136 ∷ 220 ∷ 5 ∷ [])
@@ -178,10 +191,10 @@ SingleTone =
     ∷ hands false [] (Stopped 1500)
     ∷ []
 
--- An end of the same number with a stamp is another end; an off four numbers on tells a gap.
+-- An end of the same number with a stamp is another end; an off two numbers on tells a gap.
 abbrev pub AnotherStamp : Type 0
 AnotherStamp =
-    handed freshReceiver
+    told freshReceiver
     (on
     ∷ (10 ∷ 65 ∷ 255 ∷ 255 ∷ [])
     ∷ (19 ∷ 65 ∷ 255 ∷ 255 ∷ [])
@@ -198,7 +211,7 @@ AnotherStamp =
 -- An on of the same number and stamp is a repeat, whatever its modulation.
 abbrev pub SameOn : Type 0
 SameOn =
-    handed freshReceiver
+    told freshReceiver
     (on
     ∷ (129 ∷ 232 ∷ 3 ∷ 2 ∷ 0 ∷ 0 ∷ [])
     ∷ (10 ∷ 65 ∷ 255 ∷ 255 ∷ [])

@@ -39,7 +39,8 @@ underHdlc (InForce hdlc modulation code last stamp) = hdlc
 
 -- ---- "Refusals: 41 .. 42 ..; after 15, 41 first."
 
--- "72, 60, 48, 36, 24 or 12 octets for 14400 down to 2400 bit/s", by the codes of Figure D-7; none under a single tone or V.21
+-- "72, 60, 48, 36, 24 or 12 octets for 14400 down to 2400 bit/s", by the codes of Figure D-7; under a single
+-- tone or V.21 none, which no data payload has: 0
 abbrev pub pageSizes : List ℕ
 pageSizes = 0 ∷ 0 ∷ 12 ∷ 24 ∷ 36 ∷ 48 ∷ 60 ∷ 72 ∷ 36 ∷ 48 ∷ 60 ∷ 72 ∷ []
 
@@ -94,7 +95,7 @@ idle r command = eqb (codeOf command) (codeOf Off) && not (isOn r)
 
 -- ---- What a payload adds, by its step
 
--- the step from the payload taken just before, modulo 16; with none on there is no such payload
+-- the step from the payload taken just before, modulo 16; with none on that is not kept, and no step is asked for
 abbrev pub stepFrom : Receiver → ℕ → ℕ
 stepFrom NoneOn number = 0
 stepFrom (InForce hdlc modulation code last stamp) number = step 4 (last .0) number

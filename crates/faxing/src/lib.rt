@@ -29,7 +29,8 @@ pub enum Receiver {
     },
 }
 
-// What a payload did, once: modulation-on, modulation-off, data, end-of-frame, abort. Stamps are in milliseconds.
+// What a payload did: nothing, where it is refused, repeats a command or is an off with none on; else what its command says,
+// modulation-on, modulation-off, data (which may add no octet), end-of-frame, abort. Stamps are in milliseconds.
 pub enum Did {
     Nothing,
     Began {

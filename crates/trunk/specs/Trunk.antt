@@ -1,5 +1,5 @@
--- One sub-channel at the far end (document 01, "Payload types" and "Receivers"; document 02, wish 1): what a payload of a type brings about, by what is
--- provisioned on the sub-channel. The layout names the receiver; a refusal hands the trunk back unchanged.
+-- One sub-channel at the far end (document 01, "Payload types" and "Receivers"; document 02, wish 1): what a payload of a type
+-- brings about, by what is provisioned on the sub-channel. The layout names the receiver; a refusal hands the trunk back unchanged.
 use Prim.Native.Nat.{ℕ}
 use mathlib.Core.List.{List, [], _∷_}
 use mathlib.Core.Bool.{false, cond}
