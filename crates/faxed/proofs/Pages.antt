@@ -1,11 +1,11 @@
 -- T.4 data without HDLC: what arrives is handed on, with a gap where payloads before it were lost.
-use Prim.Native.Nat.{ℕ, zero, suc, _+_, _<_, _≤_}
+use Prim.Native.Nat.{ℕ, zero, suc, _+_, _≤_}
 use mathlib.Core.Path.{_≡_, refl, ap, _∙_}
 use mathlib.Core.List.{List, [], _∷_, _++_, map, reverse, append-assoc, reverse-reverse}
-use mathlib.Core.Bool.{Bool, true, false, _&&_, and-eq-true-iff, and-false}
+use mathlib.Core.Bool.{true, false, and-false}
 use native.Mathlib.Omega.{arith}
 use borrow.Author.Tests.{le-ltb, eq-eqb, ne-eqb}
-use lib.ListN.{length, getD, drop, length-reverse}
+use lib.ListN.{length, getD, length-reverse}
 use lib.Seq.{take-length}
 use Rattle.fax.specs.declared.Stamp.{Stamp}
 use Rattle.fax.specs.declared.Stamp.the-variants.{Stamped}

@@ -9,7 +9,7 @@ use Rattle.faxing.specs.Replay.{freshReceiver, received}
 use Rattle.faxing.proofs.receive.Kinds as receive-kinds
 use Rattle.faxing.proofs.receive.Reads as receive-reads
 use Rattle.faxed.specs.Events.{Event, handedBy, handed}
-use Rattle.faxed.specs.Tied.{Tied, Calls, no-more, goes-on, CallsAreHanded, CallsHandComplete}
+use Rattle.faxed.specs.Tied.{Tied, no-more, goes-on, CallsAreHanded, CallsHandComplete}
 use Rattle.faxed.proofs.Complete.{handed-complete}
 
 pub tied : Tied

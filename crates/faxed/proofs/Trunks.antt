@@ -2,12 +2,11 @@
 use Prim.Native.Nat.{ℕ}
 use mathlib.Core.Path.{_≡_, refl, sym, ap, _∙_}
 use mathlib.Core.List.{List, [], _∷_, _++_}
-use mathlib.Core.Bool.{Bool, true, false, cond}
+use mathlib.Core.Bool.{true, false}
 use borrow.Author.Tests.{eqb-true, eqb-false}
 use lib.Dec.{eqb}
 use Rattle.refusal.specs.Numbers.{sound}
 use Rattle.octets.proofs.Order.{clash, either, picked}
-use Rattle.record.specs.declared.table.Found.{Found}
 use Rattle.data.specs.declared.DataRead.{DataRead}
 use Rattle.data.specs.declared.DataRead.the-variants.{Fragment, BadData}
 use Rattle.data.specs.Data.{dataRead}
@@ -30,7 +29,7 @@ use Rattle.trunk.specs.declared.Trunk.{Trunk}
 use Rattle.trunk.specs.declared.Told.{Told}
 use Rattle.trunk.specs.Trunk.{freshTrunk, voiceTaken, sidTaken, dataTaken, takenAs, taken}
 use Rattle.faxed.specs.Events.{Event, eventsBy, handedBy, handed}
-use Rattle.faxed.specs.Trunks.{Coming, isFax, faxAmong, faxTold, trunkHanded, TrunkHands, TrunkHandsComplete}
+use Rattle.faxed.specs.Trunks.{isFax, faxAmong, faxTold, TrunkHands, TrunkHandsComplete}
 use Rattle.faxed.proofs.Complete.{handed-complete}
 
 -- what a trunk tells under the layout of fax is what the replay answers

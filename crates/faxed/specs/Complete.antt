@@ -3,7 +3,6 @@ use Prim.Native.Nat.{ℕ}
 use mathlib.Core.Path.{_≡_}
 use mathlib.Core.List.{List, [], _∷_, _++_, map}
 use mathlib.Core.Bool.{true}
-use Rattle.faxing.specs.declared.Receiver.{Receiver}
 use Rattle.faxing.specs.Replay.{freshReceiver}
 use Rattle.faxed.specs.Events.{Event, begins, page, ends, aborts, stops, handed, after}
 use Rattle.faxed.specs.Run.{Closing, ended, aborted, Item, octet, close, FaxCall, Fillers, Honest, sent, Arrives}

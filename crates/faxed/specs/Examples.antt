@@ -2,13 +2,13 @@
 -- hand; proofs/Examples.antt computes them.
 use Prim.Native.Nat.{ℕ}
 use mathlib.Core.Path.{_≡_}
-use mathlib.Core.List.{List, [], _∷_}
+use mathlib.Core.List.{List, [], _∷_, _++_, map, reverse}
 use mathlib.Core.Bool.{true, false}
 use lib.ListN.{replicate}
 use Rattle.fax.specs.declared.Stamp.the-variants.{NoStamp}
 use Rattle.faxing.specs.Replay.{freshReceiver}
-use Rattle.faxed.specs.Events.{Event, begins, page, gap, ends, stops, refused, handed}
-use Rattle.faxed.specs.Run.{Sending, once, thrice, ended, Item, octet, close, FaxCall, ones, Honest, sent, Arrives}
+use Rattle.faxed.specs.Events.{begins, page, gap, ends, stops, refused, handed}
+use Rattle.faxed.specs.Run.{once, thrice, ended, Item, octet, close, FaxCall, ones, Honest, sent, Arrives}
 use Rattle.faxed.specs.Pages.{Block, arrives, lost, PageCall, HonestPages}
 
 -- A call of one frame with the octets 65 to 68 (41 to 44), and the payloads sent for it.
@@ -257,96 +257,29 @@ OffBehindAnEmptyFrame =
     ∷ stops 1500
     ∷ []
 
--- T.4: 14 payloads lost in a row are told as a gap.
+-- T.4 at 2400 bit/s: the octets of two payloads, oldest first, of which the first has the number 1.
+abbrev one : List ℕ
+one = 1 ∷ 2 ∷ 3 ∷ 4 ∷ 5 ∷ 6 ∷ 7 ∷ 8 ∷ 9 ∷ 10 ∷ 11 ∷ 12 ∷ []
+
+abbrev two : List ℕ
+two = 13 ∷ 14 ∷ 15 ∷ 16 ∷ 17 ∷ 18 ∷ 19 ∷ 20 ∷ 21 ∷ 22 ∷ 23 ∷ 24 ∷ []
+
+abbrev page-on : List ℕ
+page-on = 129 ∷ 232 ∷ 3 ∷ 2 ∷ 0 ∷ 0 ∷ []
+
+-- 14 payloads lost in a row between the two are told as a gap.
 abbrev pub FourteenPagesLost : Type 0
 FourteenPagesLost =
-    handed freshReceiver
-    ((129 ∷ 232 ∷ 3 ∷ 2 ∷ 0 ∷ 0 ∷ [])
-    ∷ (10 ∷ 12 ∷ 11 ∷ 10 ∷ 9 ∷ 8 ∷ 7 ∷ 6 ∷ 5 ∷ 4 ∷ 3 ∷ 2 ∷ 1 ∷ [])
-    ∷ (2 ∷ 24 ∷ 23 ∷ 22 ∷ 21 ∷ 20 ∷ 19 ∷ 18 ∷ 17 ∷ 16 ∷ 15 ∷ 14 ∷ 13 ∷ [])
-    ∷ [])
-    ≡ begins false 2 0 1000
-    ∷ page 1
-    ∷ page 2
-    ∷ page 3
-    ∷ page 4
-    ∷ page 5
-    ∷ page 6
-    ∷ page 7
-    ∷ page 8
-    ∷ page 9
-    ∷ page 10
-    ∷ page 11
-    ∷ page 12
-    ∷ gap
-    ∷ page 13
-    ∷ page 14
-    ∷ page 15
-    ∷ page 16
-    ∷ page 17
-    ∷ page 18
-    ∷ page 19
-    ∷ page 20
-    ∷ page 21
-    ∷ page 22
-    ∷ page 23
-    ∷ page 24
-    ∷ []
+    handed freshReceiver (page-on ∷ (10 ∷ reverse one) ∷ (2 ∷ reverse two) ∷ [])
+    ≡ begins false 2 0 1000 ∷ map page one ++ gap ∷ map page two
 
 -- 15 lost in a row: the next has the number of the last, adds nothing and tells nothing.
 abbrev pub FifteenPagesLost : Type 0
 FifteenPagesLost =
-    handed freshReceiver
-    ((129 ∷ 232 ∷ 3 ∷ 2 ∷ 0 ∷ 0 ∷ [])
-    ∷ (10 ∷ 12 ∷ 11 ∷ 10 ∷ 9 ∷ 8 ∷ 7 ∷ 6 ∷ 5 ∷ 4 ∷ 3 ∷ 2 ∷ 1 ∷ [])
-    ∷ (10 ∷ 24 ∷ 23 ∷ 22 ∷ 21 ∷ 20 ∷ 19 ∷ 18 ∷ 17 ∷ 16 ∷ 15 ∷ 14 ∷ 13 ∷ [])
-    ∷ [])
-    ≡ begins false 2 0 1000
-    ∷ page 1
-    ∷ page 2
-    ∷ page 3
-    ∷ page 4
-    ∷ page 5
-    ∷ page 6
-    ∷ page 7
-    ∷ page 8
-    ∷ page 9
-    ∷ page 10
-    ∷ page 11
-    ∷ page 12
-    ∷ []
+    handed freshReceiver (page-on ∷ (10 ∷ reverse one) ∷ (10 ∷ reverse two) ∷ []) ≡ begins false 2 0 1000 ∷ map page one
 
 -- 16 lost in a row: the next is a step of 1, and follows without a gap.
 abbrev pub SixteenPagesLost : Type 0
 SixteenPagesLost =
-    handed freshReceiver
-    ((129 ∷ 232 ∷ 3 ∷ 2 ∷ 0 ∷ 0 ∷ [])
-    ∷ (10 ∷ 12 ∷ 11 ∷ 10 ∷ 9 ∷ 8 ∷ 7 ∷ 6 ∷ 5 ∷ 4 ∷ 3 ∷ 2 ∷ 1 ∷ [])
-    ∷ (18 ∷ 24 ∷ 23 ∷ 22 ∷ 21 ∷ 20 ∷ 19 ∷ 18 ∷ 17 ∷ 16 ∷ 15 ∷ 14 ∷ 13 ∷ [])
-    ∷ [])
-    ≡ begins false 2 0 1000
-    ∷ page 1
-    ∷ page 2
-    ∷ page 3
-    ∷ page 4
-    ∷ page 5
-    ∷ page 6
-    ∷ page 7
-    ∷ page 8
-    ∷ page 9
-    ∷ page 10
-    ∷ page 11
-    ∷ page 12
-    ∷ page 13
-    ∷ page 14
-    ∷ page 15
-    ∷ page 16
-    ∷ page 17
-    ∷ page 18
-    ∷ page 19
-    ∷ page 20
-    ∷ page 21
-    ∷ page 22
-    ∷ page 23
-    ∷ page 24
-    ∷ []
+    handed freshReceiver (page-on ∷ (10 ∷ reverse one) ∷ (18 ∷ reverse two) ∷ [])
+    ≡ begins false 2 0 1000 ∷ map page one ++ map page two

@@ -18,7 +18,6 @@ use Rattle.fax.specs.declared.Command.the-variants.{Off, On, Page, EndOfFrame, 
 use Rattle.fax.specs.Fax.{isPage, isOne, bodySized}
 use Rattle.faxing.specs.declared.Receiver.{Receiver}
 use Rattle.faxing.specs.declared.Did.{Did}
-use Rattle.faxing.specs.declared.Received.{Received}
 use Rattle.faxing.specs.Replay.{underHdlc, stepFrom, addCount, gapAt, handedOn, didBy, receiverAfter, acting}
 
 -- one octet more at the older end

@@ -9,7 +9,7 @@ use Rattle.refusal.specs.Numbers.{sound}
 use Rattle.faxing.specs.declared.Receiver.{Receiver}
 use Rattle.faxing.specs.declared.Received.{Received}
 use Rattle.faxing.specs.declared.Did.{Did}
-use Rattle.faxing.specs.declared.Did.the-variants.{Nothing, Began, Stopped, Added, Ended, Aborted}
+use Rattle.faxing.specs.declared.Did.the-variants.{Nothing, Began, Stopped, Added, Ended}
 use Rattle.faxing.specs.Replay.{freshReceiver, received}
 
 -- what is handed on of a payload: the number, whether octets are missing, the octets, what it did

@@ -7,7 +7,6 @@ use lib.ListN.{length, getD, take, drop, replicate}
 use Rattle.refusal.specs.Numbers.{sound, noModulation, againstModulation}
 use Rattle.refusal.specs.Order.{Test, _gives_, inOrder}
 use Rattle.counts.specs.Round.{step}
-use Rattle.counts.specs.declared.FaxCount.{FaxCount}
 use Rattle.replay.specs.Rule.{carriedCount}
 use Rattle.fax.specs.declared.Stamp.{Stamp}
 use Rattle.fax.specs.declared.Stamp.the-variants.{NoStamp, Stamped}

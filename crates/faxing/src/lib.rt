@@ -10,7 +10,7 @@ ghost use lib.ListN.{length, getD};
 ghost use Rattle.replay.specs.Rule.{carriedCount};
 ghost use Rattle.fax.specs.declared.Command.the-variants.{EndOfFrame};
 ghost use Rattle.fax.specs.Fax.{bodySized};
-ghost use Rattle.faxing.specs.Replay.{freshReceiver, isOn, underHdlc, pageSizes, dataSize, sameStamp, threeTimes, repeats, idle, stepFrom, addCount, gapAt, handedOn, didBy, takenInForce, receiverAfter, nothingDone, acting, takenBy, received};
+ghost use Rattle.faxing.specs.Replay.{freshReceiver, isOn, underHdlc, pageSizes, dataSize, sameStamp, repeats, idle, stepFrom, addCount, gapAt, handedOn, didBy, takenInForce, receiverAfter, nothingDone, acting, takenBy, received};
 ghost use Rattle.faxing.specs.Private.{refusalOf};
 
 // The octets of a T.4 payload by the modulation in force; none under a single tone or V.21.

@@ -2,9 +2,7 @@
 use Prim.Native.Nat.{_≤_}
 use lib.ListN.{length}
 use Rattle.faxing.proofs.Handed.{add-fits, answered}
-use mathlib.Core.Path.{sym, ap, _∙_}
 use native.Mathlib.Omega.{arith}
-use Rattle.faxing.specs.Replay.{acting}
 use Rattle.faxing.proofs.Handed.{add-fits}
 use borrow.Author.Needs.{needs}
 use Rattle.faxing.proofs.act.Statement.{statement}

@@ -2,8 +2,7 @@
 use mathlib.Core.Path.{sym, ap, _∙_}
 use mathlib.Core.List.{List}
 use Prim.Native.Nat.{ℕ}
-use lib.ListN.{length, drop}
-use Rattle.fax.specs.declared.FaxRead.{FaxRead}
+use lib.ListN.{length}
 use Rattle.fax.specs.Fax.{bodySized}
 use Rattle.faxing.specs.Replay.{takenBy, receivedBy, received}
 use Rattle.faxing.proofs.Taken as taken

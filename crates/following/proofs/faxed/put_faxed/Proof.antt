@@ -1,7 +1,5 @@
 -- `following::faxed::put_faxed` meets its contract: the gap, the octets, what was done.
-use mathlib.Core.Path.{_≡_, sym}
 use native.Mathlib.Omega.{arith}
-use lib.ListN.{length}
 use Rattle.octets.specs.Text.{ascii}
 use Rattle.printing.proofs.Appending as appending
 use Rattle.following.specs.Following.{faxedLines}
