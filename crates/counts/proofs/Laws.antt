@@ -1,4 +1,4 @@
--- The laws of specs/Laws.antt, proved once over the width, and cited for the four counts.
+-- The laws of specs/Laws.antt, proved once over the width, and cited for the five counts.
 use Prim.Native.Nat.{ℕ, suc, _+_, _-_, _*_, _/_, _%_, _^_, _<_}
 use mathlib.Core.Path.{_≡_, sym, ap, _∙_}
 use mathlib.Core.Logic.{_↔_}

@@ -1,4 +1,5 @@
--- T.4 data without HDLC (document 02, wish 1; FRF.11, D.4.2): what is handed on of what arrives. Proved in proofs/Pages.antt.
+-- A call without HDLC (document 02, wish 1; FRF.11, D.4.2): T.4 data, or a single tone, which has none; what is handed on of what
+-- arrives. Proved in proofs/Pages.antt.
 use Prim.Native.Nat.{ℕ, zero, suc, _+_, _*_, _/_, _<_, _≤_}
 use mathlib.Core.Path.{_≡_}
 use mathlib.Core.List.{List, [], _∷_, _++_, map, reverse}
@@ -7,7 +8,7 @@ use lib.ListN.{length, getD, replicate}
 use Rattle.fax.specs.declared.Stamp.{Stamp}
 use Rattle.fax.specs.declared.Stamp.the-variants.{Stamped}
 use Rattle.fax.specs.declared.Command.the-variants.{Off, On, Page}
-use Rattle.fax.specs.Fax.{stampNumber}
+use Rattle.fax.specs.Fax.{stampNumber, toneRefused}
 use Rattle.faxing.specs.Replay.{freshReceiver}
 use Rattle.faxed.specs.Events.{Event, begins, page, gap, stops, handed, after}
 use Rattle.faxed.specs.Run.{payload}
@@ -22,12 +23,13 @@ pub data Fate : Type 0 where
   arrives : Block → Fate
   lost : Block → Fate
 
--- A T.4 call: the number and the stamp of its modulation-on, the modulation, the payloads in the order sent, the stamp of its
+-- A call: the number and the stamp of its modulation-on, the modulation, the payloads in the order sent, the stamp of its
 -- modulation-off. On and off arrive once and so many times again.
 pub record PageCall : Type 0 where
   pub first : ℕ
   pub begun : ℕ
   pub modulation : ℕ
+  pub frequency : ℕ
   pub blocks : List Fate
   pub stopped : ℕ
   pub onAgain : ℕ
@@ -42,7 +44,7 @@ cameAfter n (arrives b ∷ more) stopped again =
 cameAfter n (lost b ∷ more) stopped again = cameAfter (n + 1) more stopped again
 
 abbrev pub onOf : PageCall → List ℕ
-onOf s = payload (s .first) (Stamped (s .begun)) (On false (s .modulation) 0) []
+onOf s = payload (s .first) (Stamped (s .begun)) (On false (s .modulation) (s .frequency)) []
 
 abbrev pub came : PageCall → List (List ℕ)
 came s = onOf s ∷ replicate (s .onAgain) (onOf s) ++ cameAfter (s .first) (s .blocks) (s .stopped) (s .offAgain)
@@ -54,14 +56,16 @@ rates = 0 ∷ 300 ∷ 2400 ∷ 4800 ∷ 7200 ∷ 9600 ∷ 12000 ∷ 14400 ∷ 72
 abbrev pub sizeAt : ℕ → ℕ
 sizeAt modulation = getD rates modulation 0 * 40 / 8000
 
--- every payload has the length of the modulation, which is neither a single tone nor V.21, and every stamp can be written
 abbrev pub blockOf : Fate → Block
 blockOf (arrives b) = b
 blockOf (lost b) = b
 
+-- every payload has the length of the modulation, which is neither a single tone nor V.21, and a stamp that can be written
 abbrev pub AllSized : ℕ → List Fate → Type 0
-AllSized size [] = Unit
-AllSized size (f ∷ more) = (length (blockOf f .octets) ≡ size) × (stampNumber (blockOf f .stamp) ≤ 32767) × AllSized size more
+AllSized modulation [] = Unit
+AllSized modulation (f ∷ more) =
+    (2 ≤ modulation) × (length (blockOf f .octets) ≡ sizeAt modulation) × (stampNumber (blockOf f .stamp) ≤ 32767)
+    × AllSized modulation more
 
 -- at most 14 are lost in a row, of which so many are already
 abbrev pub FewLost : ℕ → List Fate → Type 0
@@ -72,9 +76,8 @@ FewLost already (lost b ∷ more) = (already < 14) × FewLost (suc already) more
 pub record HonestPages (s : PageCall) : Type 0 where
   pub begun : s .begun ≤ 32767
   pub stopped : s .stopped ≤ 32767
-  pub fast : 2 ≤ s .modulation
-  pub listed : s .modulation ≤ 11
-  pub sized : AllSized (sizeAt (s .modulation)) (s .blocks)
+  pub tone : toneRefused (s .modulation) (s .frequency) ≡ false
+  pub sized : AllSized (s .modulation) (s .blocks)
   pub few : FewLost 0 (s .blocks)
 
 -- what is due: the octets that arrived, in order, and a gap where, and only where, payloads before them were lost
@@ -88,7 +91,7 @@ due already (arrives b ∷ more) stopped = gapAfter already ++ (map page (b .oct
 due already (lost b ∷ more) stopped = due (suc already) more stopped
 
 abbrev pub allDue : PageCall → List Event
-allDue s = begins false (s .modulation) 0 (s .begun) ∷ due 0 (s .blocks) (s .stopped)
+allDue s = begins false (s .modulation) (s .frequency) (s .begun) ∷ due 0 (s .blocks) (s .stopped)
 
 -- A replay with no modulation on hands on what is due, and no modulation is on then.
 abbrev pub PagesHanded : Type 0
@@ -107,4 +110,4 @@ PagesComplete =
     (s : PageCall) (blocks : List Block)
     → HonestPages s
     → s .blocks ≡ map arrives blocks
-    → handed freshReceiver (came s) ≡ begins false (s .modulation) 0 (s .begun) ∷ allOf blocks ++ stops (s .stopped) ∷ []
+    → handed freshReceiver (came s) ≡ begins false (s .modulation) (s .frequency) (s .begun) ∷ allOf blocks ++ stops (s .stopped) ∷ []

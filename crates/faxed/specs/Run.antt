@@ -90,8 +90,8 @@ pub record Honest (s : FaxCall) : Type 0 where
 
 -- ---- What arrives
 
--- "with at most two successive data payloads lost .. if one of each three command payloads arrives": `lost` data payloads were lost
--- since the last arrival, which any arrival ends. A command arrives once and as many times again as one likes.
+-- "with at most two successive data payloads lost .. if one of each three command payloads arrives": `lost` counts the data payloads
+-- lost since the last arrival, of data or a command. A command arrives once and as many times again as one likes.
 pub data Arrives : ℕ → List Sending → List (List ℕ) → Type 0 where
   all : {lost : ℕ} → Arrives lost [] []
   gone : {lost : ℕ} {p : List ℕ} {more : List Sending} {came : List (List ℕ)} → lost < 2 → Arrives (suc lost) more came → Arrives lost (once p ∷ more) came

@@ -1,4 +1,4 @@
--- A fax session: calls one after the other, with HDLC and without, as D.4.1 and D.4.2 take turns. Proved in proofs/Session.antt.
+-- A fax session: calls one after the other, single tones, frames under HDLC (D.4.1) and pages (D.4.2). Proved in proofs/Session.antt.
 use Prim.Native.Nat.{ℕ}
 use mathlib.Core.Path.{_≡_}
 use mathlib.Core.List.{List, [], _++_}

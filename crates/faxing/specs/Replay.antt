@@ -109,7 +109,7 @@ addCount hdlc EndOfFrame step size = carriedCount (step - 1)
 addCount hdlc Abort step size = carriedCount (step - 1)
 
 -- Whether octets are missing before these: data under HDLC "from 4 on .. after a reported gap"; "with a gap from 5 on"; "Without
--- HDLC, and at modulation-off, steps above 1 report a gap".
+-- HDLC, and at modulation-off, steps above 1 report a gap". On begins the number anew (D.3.8), and has no step.
 abbrev pub gapAt : Bool → Command → ℕ → Bool
 gapAt hdlc Off step = ltb 1 step
 gapAt hdlc (On toHdlc modulation frequency) step = false

@@ -1,4 +1,5 @@
--- The receivers' rule, once for digits and signalling (document 01, "Receivers"): which periods a payload appends, by its step.
+-- The receivers' rule, once for digits and signalling (document 01, "Receivers"): which periods a payload appends, by its step. The
+-- fax replay counts octets by `carriedCount`.
 use Prim.Native.Nat.{ℕ, _-_, min}
 use mathlib.Core.List.{List}
 use mathlib.Core.Bool.{Bool, cond}

@@ -60,8 +60,8 @@ pub struct Faxed {
     pub did: Did,
 }
 
-// What a payload brings about: the refusal number, 0 where it is taken; what was heard; what each receiver appended; and the trunk
-// after it, which is as it was where the payload is refused.
+// What a payload brings about: the refusal number, 0 where it is taken; what was heard; what each receiver appended and the fax
+// replay handed on; and the trunk after it, which is as it was where the payload is refused.
 pub struct Told {
     pub number: u8,
     pub heard: Heard,
