@@ -53,8 +53,8 @@ arrived = on ∷ hdlc 1 65 255 255 ∷ hdlc 4 68 67 66 ∷ end 5 68 67 66 ∷ en
 abbrev pub Met : Type 0
 Met = Honest call × Arrives 0 (sent ones call) arrived
 
--- What `TrunkHandsComplete` asks can be met: the same on an acelp sub-channel (type 3), with voice, a digits payload and one of a type
--- that no sub-channel has in between.
+-- What `TrunkHandsComplete` asks can be met: the same payloads, each once, on an acelp sub-channel (type 3), with voice before them, and
+-- a digits payload and one of a type that no sub-channel has between them.
 abbrev acelp : Found
 acelp = Provisioned (record { syntax = Acelp; m = 1; seq = false })
 
@@ -155,7 +155,8 @@ pub record Worked : Type 0 where
   -- The last end of a call lost with all its copies: modulation-off tells a gap, and the frame is not ended.
   pub last-end-lost :
       handed freshReceiver (on ∷ hdlc 1 65 255 255 ∷ off 3 ∷ []) ≡ begins true 1 0 1000 ∷ page 65 ∷ gap ∷ stops 1500 ∷ []
-  -- A modulation-off lost with all its copies: the next modulation-on begins, and nothing stopped; data lost before it is not told.
+  -- A modulation-off lost with all its copies: the next modulation-on begins, and nothing stopped; the end that was lost before it is
+  -- not told either.
   pub off-lost :
       handed freshReceiver (on ∷ hdlc 1 65 255 255 ∷ later-on ∷ []) ≡ begins true 1 0 1000 ∷ page 65 ∷ begins true 1 0 2000 ∷ []
   -- A copy of modulation-on that comes late begins the call anew, and octets come twice.

@@ -23,8 +23,8 @@ pub data Fate : Type 0 where
   arrives : Block → Fate
   lost : Block → Fate
 
--- A call: the number and the stamp of its modulation-on, the modulation, the payloads in the order sent, the stamp of its
--- modulation-off. On and off arrive once and so many times again.
+-- A call: the number and the stamp of its modulation-on, the modulation, the frequency of a single tone, the payloads in the order
+-- sent, the stamp of its modulation-off. On and off arrive once and so many times again.
 pub record PageCall : Type 0 where
   pub first : ℕ
   pub begun : ℕ
