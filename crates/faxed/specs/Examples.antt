@@ -120,7 +120,7 @@ later-on = 129 ∷ 208 ∷ 7 ∷ 129 ∷ 0 ∷ 0 ∷ []
 
 -- From a replay with no modulation on, run by run: what the payloads hand on.
 pub record Worked : Type 0 where
-  -- The bound is sharp: with the first three data payloads lost, a gap is told, and octet 65 is missing.
+  -- The bound is sharp: of `call`, with its first three data payloads lost, a gap is told, and octet 65 is missing.
   pub bound-is-sharp :
       handed freshReceiver (on ∷ hdlc 4 68 67 66 ∷ end 5 68 67 66 ∷ off 6 ∷ [])
       ≡ begins true 1 0 1000 ∷ gap ∷ page 66 ∷ page 67 ∷ page 68 ∷ ends ∷ stops 1500 ∷ []
