@@ -98,14 +98,14 @@ mod tests {
             code: 15,
         };
         let mut answer = DigitAnswer {
-            filled: 252,
+            filled: 124,
             with: Window { edge: 0, ..on },
             carried: 1,
             ..DigitAnswer::default()
         };
         answer.periods[0] = on;
         let printed = text(|output| print_digit_answer(output, &answer));
-        let wanted = "filled=252\nwith=01000f\ncarried=1\nperiod=01130f\n";
+        let wanted = "filled=124\nwith=01000f\ncarried=1\nperiod=01130f\n";
         assert_eq!(printed, wanted);
     }
 

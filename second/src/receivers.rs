@@ -1,13 +1,47 @@
-//! Document 01, "Receivers"; FRF.11 sections A.4.2 and B.5.
+//! Document 01, "Receivers"; document 02, wish 3, "Late payloads through a
+//! tunnel"; FRF.11 sections A.4.2 and B.5.
 
 use crate::payload::digits::{self, Window};
 use crate::payload::signalling::{self, Signalling};
 use crate::payload::Content;
-use crate::refusal::Refusal;
+use crate::refusal::{Refusal, OLDER_PAYLOAD};
 use crate::senders::{Samples, PERIOD_SAMPLES};
 
 /// The windows of a payload.
 const WINDOWS: usize = 3;
+
+/// A count of payloads: where it goes round, and the steps that are older.
+struct Count {
+    /// It goes round at this.
+    modulus: u16,
+    /// A payload of this step or more is taken as older (wish 3).
+    older_from: u8,
+}
+
+/// The digit count: steps of 128 to 255 are older.
+const DIGIT_COUNT: Count = Count {
+    modulus: 256,
+    older_from: 128,
+};
+
+/// The signalling count: steps of 64 to 127 are older.
+const SIGNALLING_COUNT: Count = Count {
+    modulus: 128,
+    older_from: 64,
+};
+
+impl Count {
+    /// The step from the last payload to a new one that is taken as fresh; no
+    /// step where there was none before, as a first payload is never older. 19
+    /// for an older payload.
+    fn fresh_step(&self, new: u8, last: Option<u8>) -> Result<Option<u8>, Refusal> {
+        let step = last.map(|last| step(new, last, self.modulus));
+        match step {
+            Some(step) if step >= self.older_from => Err(OLDER_PAYLOAD),
+            _ => Ok(step),
+        }
+    }
+}
 
 /// How many periods a payload fills and how many it carries.
 #[derive(Clone, Copy, Debug, PartialEq, Eq)]
@@ -56,7 +90,7 @@ pub struct DigitAnswer {
 /// The digit receiver.
 #[derive(Clone, Debug, Default, PartialEq, Eq)]
 pub struct DigitReceiver {
-    /// The sequence of the last payload, if there was one.
+    /// The sequence of the last payload that was taken, if there was one.
     last_sequence: Option<u8>,
     /// What a fill would hold: the last state with edge 0.
     fill: Window,
@@ -68,12 +102,16 @@ impl DigitReceiver {
         DigitReceiver::default()
     }
 
-    /// Takes a digits payload: the refusal of its reading, or the answer.
+    /// The sequence of the last payload that was taken, if there was one.
+    pub fn last_sequence(&self) -> Option<u8> {
+        self.last_sequence
+    }
+
+    /// Takes a digits payload: the refusal of its reading, then 19 for an older
+    /// one, and then nothing changes; or the answer.
     pub fn accept(&mut self, payload: &[u8]) -> Result<DigitAnswer, Refusal> {
         let digits = digits::read(payload)?;
-        let step = self
-            .last_sequence
-            .map(|last| step(digits.sequence, last, 256));
+        let step = DIGIT_COUNT.fresh_step(digits.sequence, self.last_sequence)?;
         let Appends { filled, carried } = appends(step);
         let mut answer = DigitAnswer {
             filled,
@@ -127,7 +165,7 @@ pub struct SignallingAnswer {
 /// The signalling receiver.
 #[derive(Clone, Debug, Default, PartialEq, Eq)]
 pub struct SignallingReceiver {
-    /// The sequence of the last payload, if there was one.
+    /// The sequence of the last payload that was taken, if there was one.
     last_sequence: Option<u8>,
     /// The last sample of the record.
     last_sample: u8,
@@ -153,12 +191,16 @@ impl SignallingReceiver {
         self.alarm
     }
 
-    /// Takes a signalling payload: the refusal of its reading, or the answer.
+    /// The sequence of the last payload that was taken, if there was one.
+    pub fn last_sequence(&self) -> Option<u8> {
+        self.last_sequence
+    }
+
+    /// Takes a signalling payload: the refusal of its reading, then 19 for an
+    /// older one, and then nothing changes; or the answer.
     pub fn accept(&mut self, payload: &[u8]) -> Result<SignallingAnswer, Refusal> {
         let signalling = signalling::read(payload)?;
-        let step = self
-            .last_sequence
-            .map(|last| step(signalling.sequence, last, 128));
+        let step = SIGNALLING_COUNT.fresh_step(signalling.sequence, self.last_sequence)?;
         let Appends { filled, carried } = appends(step);
         let mut answer = SignallingAnswer {
             filled,
@@ -235,12 +277,22 @@ mod tests {
         digits_payload(sequence, [on(3, 3), on(2, 2), on(1, 1)])
     }
 
-    /// The answer to a payload with one number after one with another.
-    fn digits_after(last: u8, new: u8) -> DigitAnswer {
+    /// A digit receiver that has taken a payload with a number.
+    fn digits_at(last: u8) -> DigitReceiver {
         let mut receiver = DigitReceiver::new();
         let first = digits_payload(last, [on(9, 9), OFF, OFF]);
         receiver.accept(&first).unwrap();
-        receiver.accept(&digits_numbered(new)).unwrap()
+        receiver
+    }
+
+    /// The answer to a payload with one number after one with another.
+    fn digits_after(last: u8, new: u8) -> Result<DigitAnswer, Refusal> {
+        digits_at(last).accept(&digits_numbered(new))
+    }
+
+    /// Its fill count and its carried count.
+    fn digit_counts_after(last: u8, new: u8) -> Result<(u8, usize), Refusal> {
+        digits_after(last, new).map(|it| (it.filled, it.carried))
     }
 
     /// A signalling payload of thirty samples, oldest first.
@@ -261,6 +313,22 @@ mod tests {
         samples[0] = 11;
         samples[29] = 13;
         samples
+    }
+
+    /// A signalling receiver that has taken a payload of samples 9 with a number.
+    fn signalling_at(last: u8) -> SignallingReceiver {
+        let mut receiver = SignallingReceiver::new();
+        let first = signalling_payload(last, false, [9; 30]);
+        receiver.accept(&first).unwrap();
+        receiver
+    }
+
+    /// The fill count and the carried count of a payload with one number after
+    /// one with another.
+    fn signalling_counts_after(last: u8, new: u8) -> Result<(u8, usize), Refusal> {
+        let payload = signalling_payload(new, true, numbered_samples());
+        let answer = signalling_at(last).accept(&payload);
+        answer.map(|it| (it.filled, it.carried))
     }
 
     #[test]
@@ -286,8 +354,13 @@ mod tests {
                 let answer = digits_after(last, last.wrapping_add(step));
                 let (filled, carried) = match step {
                     0..=3 => (0, usize::from(step)),
-                    _ => (step - 3, 3),
+                    4..=127 => (step - 3, 3),
+                    _ => {
+                        assert_eq!(answer, Err(19));
+                        continue;
+                    }
                 };
+                let answer = answer.unwrap();
                 assert_eq!((answer.filled, answer.carried), (filled, carried));
                 let with = if filled > 0 { on(9, 0) } else { OFF };
                 assert_eq!(answer.with, with);
@@ -302,16 +375,20 @@ mod tests {
     fn every_signalling_step_from_every_number() {
         for last in 0..128u8 {
             for step in 0..128u8 {
-                let mut receiver = SignallingReceiver::new();
-                let first = signalling_payload(last, false, [9; 30]);
-                receiver.accept(&first).unwrap();
+                let mut receiver = signalling_at(last);
                 let new = (last + step) % 128;
                 let payload = signalling_payload(new, true, numbered_samples());
-                let answer = receiver.accept(&payload).unwrap();
+                let answer = receiver.accept(&payload);
                 let (filled, carried) = match step {
                     0..=3 => (0, usize::from(step)),
-                    _ => (step - 3, 3),
+                    4..=63 => (step - 3, 3),
+                    _ => {
+                        assert_eq!(answer, Err(19));
+                        assert_eq!(receiver, signalling_at(last));
+                        continue;
+                    }
                 };
+                let answer = answer.unwrap();
                 assert_eq!((answer.filled, answer.carried), (filled, carried));
                 assert_eq!(answer.with, if filled > 0 { 9 } else { 0 });
                 let newest: Vec<Samples> = numbered_samples()
@@ -327,20 +404,165 @@ mod tests {
     }
 
     #[test]
-    fn readings_fills_run_to_252_and_124() {
-        assert_eq!(digits_after(0, 255).filled, 252);
-        assert_eq!(digits_after(1, 0).filled, 252);
-        let mut receiver = SignallingReceiver::new();
-        let payload = |sequence| signalling_payload(sequence, false, [0; 30]);
-        receiver.accept(&payload(1)).unwrap();
-        assert_eq!(receiver.accept(&payload(0)).unwrap().filled, 124);
+    fn wraps_are_no_steps_backward() {
+        assert_eq!(digit_counts_after(255, 0), Ok((0, 1)));
+        assert_eq!(digit_counts_after(255, 1), Ok((0, 2)));
+        assert_eq!(digit_counts_after(254, 2), Ok((1, 3)));
+        assert_eq!(signalling_counts_after(127, 0), Ok((0, 1)));
     }
 
     #[test]
-    fn wraps_are_no_steps_backward() {
-        assert_eq!(digits_after(255, 0).carried, 1);
-        assert_eq!(digits_after(255, 1).carried, 2);
-        assert_eq!(digits_after(254, 2).filled, 1);
+    fn wish_3_127_and_63_ahead_are_replayed_and_128_and_64_are_older() {
+        for last in [0, 5, 100, 127, 128, 200, 255u8] {
+            let ahead = |step| digit_counts_after(last, last.wrapping_add(step));
+            assert_eq!(ahead(126), Ok((123, 3)));
+            assert_eq!(ahead(127), Ok((124, 3)));
+            assert_eq!(ahead(128), Err(19));
+            assert_eq!(ahead(129), Err(19));
+        }
+        for last in [0, 5, 63, 64, 100, 127u8] {
+            let ahead = |step| signalling_counts_after(last, (last + step) % 128);
+            assert_eq!(ahead(62), Ok((59, 3)));
+            assert_eq!(ahead(63), Ok((60, 3)));
+            assert_eq!(ahead(64), Err(19));
+            assert_eq!(ahead(65), Err(19));
+        }
+    }
+
+    #[test]
+    fn wish_3_128_and_64_behind_are_older_and_one_more_is_read_as_ahead() {
+        for last in [0, 5, 100, 127, 128, 200, 255u8] {
+            let behind = |back| digit_counts_after(last, last.wrapping_sub(back));
+            assert_eq!(behind(1), Err(19));
+            assert_eq!(behind(127), Err(19));
+            assert_eq!(behind(128), Err(19));
+            assert_eq!(behind(129), Ok((124, 3)));
+        }
+        for last in [0, 5, 63, 64, 100, 127u8] {
+            let behind = |back| signalling_counts_after(last, (last + 128 - back) % 128);
+            assert_eq!(behind(1), Err(19));
+            assert_eq!(behind(63), Err(19));
+            assert_eq!(behind(64), Err(19));
+            assert_eq!(behind(65), Ok((60, 3)));
+        }
+    }
+
+    #[test]
+    fn wish_3_a_first_payload_is_never_older() {
+        for sequence in 0..=255 {
+            // Neither voice nor a refused payload is a first one.
+            let mut receiver = DigitReceiver::new();
+            receiver.accept_voice();
+            assert_eq!(receiver.accept(&[0; 7]), Err(13));
+            let answer = receiver.accept(&digits_numbered(sequence)).unwrap();
+            assert_eq!((answer.filled, answer.carried), (0, 3));
+        }
+        for sequence in 0..128 {
+            let mut receiver = SignallingReceiver::new();
+            assert_eq!(receiver.accept(&[0; 15]), Err(13));
+            let payload = signalling_payload(sequence, true, numbered_samples());
+            let answer = receiver.accept(&payload).unwrap();
+            assert_eq!((answer.filled, answer.carried), (0, 3));
+        }
+    }
+
+    #[test]
+    fn wish_3_tone_and_sequence_stand_on_19() {
+        for voice in [false, true] {
+            let mut receiver = digits_at(5);
+            if voice {
+                receiver.accept_voice();
+            }
+            let before = receiver.clone();
+            for older in [4, 5 + 128, 5 + 200, 255] {
+                let payload = digits_payload(older, [on(1, 1); 3]);
+                assert_eq!(receiver.accept(&payload), Err(19));
+                assert_eq!(receiver, before);
+            }
+            // The fill is the tone of 5, or off after voice.
+            let answer = receiver.accept(&digits_numbered(10)).unwrap();
+            let with = if voice { OFF } else { on(9, 0) };
+            assert_eq!((answer.filled, answer.with, answer.carried), (2, with, 3));
+        }
+    }
+
+    #[test]
+    fn wish_3_alarm_value_and_sequence_stand_on_19() {
+        for alarm in [false, true] {
+            let mut receiver = SignallingReceiver::new();
+            let payload = signalling_payload(5, alarm, numbered_samples());
+            receiver.accept(&payload).unwrap();
+            let before = receiver.clone();
+            for older in [4, 5 + 64, 5 + 100, 127] {
+                let payload = signalling_payload(older, !alarm, [6; 30]);
+                assert_eq!(receiver.accept(&payload), Err(19));
+                assert_eq!(receiver, before);
+                assert_eq!((receiver.value(), receiver.alarm()), (13, alarm));
+            }
+            let answer = receiver.accept(&signalling_payload(10, alarm, [7; 30]));
+            let answer = answer.unwrap();
+            assert_eq!((answer.filled, answer.with, answer.carried), (2, 13, 3));
+        }
+    }
+
+    #[test]
+    fn wish_3_the_value_that_step_0_set_stands_on_19() {
+        let mut receiver = signalling_at(5);
+        let same = signalling_payload(5, true, numbered_samples());
+        receiver.accept(&same).unwrap();
+        let older = signalling_payload(4, false, [6; 30]);
+        assert_eq!(receiver.accept(&older), Err(19));
+        assert_eq!((receiver.value(), receiver.alarm()), (11, true));
+    }
+
+    #[test]
+    fn wish_3_step_0_is_not_older_also_where_it_comes_late() {
+        let mut receiver = digits_at(5);
+        assert_eq!(receiver.accept(&digits_numbered(4)), Err(19));
+        let answer = receiver.accept(&digits_numbered(5));
+        assert_eq!(answer, Ok(DigitAnswer::default()));
+        // A static repeat, then the original behind it: its alarm is followed.
+        let mut receiver = signalling_at(4);
+        let repeat = signalling_payload(5, true, numbered_samples());
+        receiver.accept(&repeat).unwrap();
+        let original = signalling_payload(5, false, numbered_samples());
+        assert_eq!(receiver.accept(&original), Ok(SignallingAnswer::default()));
+        assert_eq!((receiver.value(), receiver.alarm()), (11, false));
+    }
+
+    #[test]
+    fn wish_3_13_14_and_15_come_before_19() {
+        let mut receiver = digits_at(5);
+        let older = digits_numbered(4);
+        let with = |place: usize, octet: u8| {
+            let mut payload = older;
+            payload[place] = octet;
+            payload
+        };
+        assert_eq!(receiver.accept(&older[..7]), Err(13));
+        assert_eq!(receiver.accept(&[4; 9]), Err(13));
+        assert_eq!(receiver.accept(&with(1, 0x80)), Err(14));
+        assert_eq!(receiver.accept(&with(2, 0x40)), Err(14));
+        assert_eq!(receiver.accept(&with(7, 0x20)), Err(14));
+        assert_eq!(receiver.accept(&with(2, 0x20 + 20)), Err(15));
+        assert_eq!(receiver.accept(&with(3, 16)), Err(15));
+        assert_eq!(receiver.accept(&older), Err(19));
+        assert_eq!(receiver, digits_at(5));
+        let mut receiver = signalling_at(5);
+        let older = signalling_payload(4, true, [6; 30]);
+        assert_eq!(receiver.accept(&older[..15]), Err(13));
+        assert_eq!(receiver.accept(&[4; 17]), Err(13));
+        assert_eq!(receiver.accept(&older), Err(19));
+        assert_eq!(receiver, signalling_at(5));
+    }
+
+    #[test]
+    fn wish_3_reading_never_gives_19() {
+        // Only a receiver knows what is older.
+        for sequence in 0..=255 {
+            assert!(digits::read(&digits_numbered(sequence)).is_ok());
+            assert!(signalling::read(&[sequence; 16]).is_ok());
+        }
     }
 
     #[test]
@@ -514,7 +736,7 @@ mod tests {
         arrived
     }
 
-    /// Demand 3, restated: from two before the first arrival to the last one, a
+    /// Demand 3 for arrivals in order, restated: from two before the first arrival to the last one, a
     /// period is carried exactly when its own payload or one of the next two
     /// arrived, and then holds what the sender put there; else it is a fill.
     fn wanted<T: Copy>(
@@ -547,20 +769,114 @@ mod tests {
         record
     }
 
+    /// Appends the answer of a digit receiver to its record.
+    fn append_digits(record: &mut Vec<Period<Window>>, answer: &DigitAnswer) {
+        for _ in 0..answer.filled {
+            record.push(Period::Filled(answer.with));
+        }
+        for window in &answer.periods[..answer.carried] {
+            record.push(Period::Carried(*window));
+        }
+    }
+
+    /// Appends the answer of a signalling receiver to its record.
+    fn append_samples(record: &mut Vec<Period<Samples>>, answer: &SignallingAnswer) {
+        for _ in 0..answer.filled {
+            record.push(Period::Filled([answer.with; 10]));
+        }
+        for samples in &answer.periods[..answer.carried] {
+            record.push(Period::Carried(*samples));
+        }
+    }
+
     /// The record of a digit receiver that gets what arrives.
     fn digit_record(payloads: &[[u8; 8]], arrived: &[bool]) -> Vec<Period<Window>> {
         let mut receiver = DigitReceiver::new();
         let mut record = Vec::new();
         for (payload, _) in payloads.iter().zip(arrived).filter(|it| *it.1) {
-            let answer = receiver.accept(payload).unwrap();
-            for _ in 0..answer.filled {
-                record.push(Period::Filled(answer.with));
-            }
-            for window in &answer.periods[..answer.carried] {
-                record.push(Period::Carried(*window));
-            }
+            append_digits(&mut record, &receiver.accept(payload).unwrap());
         }
         record
+    }
+
+    /// The record of a digit receiver that gets payloads in some order, and which
+    /// of them it takes as older.
+    fn digits_in_order(
+        payloads: &[[u8; 8]],
+        order: &[usize],
+    ) -> (Vec<Period<Window>>, Vec<usize>) {
+        let mut receiver = DigitReceiver::new();
+        let (mut record, mut older) = (Vec::new(), Vec::new());
+        for place in order {
+            match receiver.accept(&payloads[*place]) {
+                Ok(answer) => append_digits(&mut record, &answer),
+                Err(number) => {
+                    assert_eq!(number, 19);
+                    older.push(*place);
+                }
+            }
+        }
+        (record, older)
+    }
+
+    /// The same of a signalling receiver.
+    fn samples_in_order(
+        payloads: &[(usize, [u8; 16])],
+        order: &[usize],
+    ) -> (Vec<Period<Samples>>, Vec<usize>) {
+        let mut receiver = SignallingReceiver::new();
+        let (mut record, mut older) = (Vec::new(), Vec::new());
+        for place in order {
+            match receiver.accept(&payloads[*place].1) {
+                Ok(answer) => append_samples(&mut record, &answer),
+                Err(number) => {
+                    assert_eq!(number, 19);
+                    older.push(*place);
+                }
+            }
+        }
+        (record, older)
+    }
+
+    #[test]
+    fn wish_3_0_1_3_2_4_has_the_record_of_0_1_3_4() {
+        for seed in 0..50 {
+            let random = &mut Random::new(seed);
+            let payloads = digits_sent(random, 10);
+            let (record, older) = digits_in_order(&payloads, &[0, 1, 3, 2, 4]);
+            assert_eq!(older, [2]);
+            assert_eq!(record, digits_in_order(&payloads, &[0, 1, 3, 4]).0);
+            // All seven periods, from two before the first on, are carried.
+            let carried = |it: &Period<Window>| matches!(it, Period::Carried(_));
+            assert_eq!(record.iter().filter(|it| carried(it)).count(), 7);
+            let payloads = signalling_sent(random, 3, 10);
+            let (record, older) = samples_in_order(&payloads, &[0, 1, 3, 2, 4]);
+            assert_eq!((record.len(), older), (7, vec![2]));
+            assert_eq!(record, samples_in_order(&payloads, &[0, 1, 3, 4]).0);
+        }
+    }
+
+    #[test]
+    fn wish_3_more_arrivals_need_not_carry_more() {
+        let carried = |record: &[Period<Window>]| {
+            let marks = record.iter().map(|it| matches!(it, Period::Carried(_)));
+            let places = marks.enumerate().filter(|it| it.1);
+            places.map(|it| it.0).collect::<Vec<usize>>()
+        };
+        let payloads = digits_sent(&mut Random::new(1), 10);
+        // Places of the record, the first two standing before payload 0.
+        let (first, older) = digits_in_order(&payloads, &[0, 5]);
+        assert_eq!(carried(&first), [0, 1, 2, 5, 6, 7]);
+        assert_eq!((first.len(), older), (8, vec![]));
+        let (second, older) = digits_in_order(&payloads, &[0, 9, 5]);
+        assert_eq!(carried(&second), [0, 1, 2, 9, 10, 11]);
+        assert_eq!((second.len(), older), (12, vec![5]));
+        let payloads = signalling_sent(&mut Random::new(1), 3, 10);
+        let (first, older) = samples_in_order(&payloads, &[0, 5]);
+        assert_eq!((first.len(), older), (8, vec![]));
+        let (second, older) = samples_in_order(&payloads, &[0, 9, 5]);
+        assert_eq!((second.len(), older), (12, vec![5]));
+        assert!(second[3..9].iter().all(|it| matches!(it, Period::Filled(_))));
     }
 
     #[test]
@@ -568,7 +884,7 @@ mod tests {
         for seed in 0..300 {
             let random = &mut Random::new(seed);
             let payloads = digits_sent(random, 1500);
-            let arrived = arrivals(random, payloads.len(), 255);
+            let arrived = arrivals(random, payloads.len(), 127);
             let own = |it: &[u8; 8]| digits::read(it).unwrap().windows[0];
             let sent: Vec<Window> = payloads.iter().map(own).collect();
             let fill = |it: Window| Window { edge: 0, ..it };
@@ -617,7 +933,7 @@ mod tests {
             let payloads = signalling_sent(random, start, 800);
             let count = payloads.last().unwrap().0 + 1;
             // A period's payload arrives when it or a repeat of it does.
-            let arrived = arrivals(random, count, 127);
+            let arrived = arrivals(random, count, 63);
             let mut sent = vec![[0; 10]; count];
             let mut receiver = SignallingReceiver::new();
             let mut record = Vec::new();
@@ -627,13 +943,7 @@ mod tests {
                 if !arrived[*place] {
                     continue;
                 }
-                let answer = receiver.accept(payload).unwrap();
-                for _ in 0..answer.filled {
-                    record.push(Period::Filled([answer.with; 10]));
-                }
-                for samples in &answer.periods[..answer.carried] {
-                    record.push(Period::Carried(*samples));
-                }
+                append_samples(&mut record, &receiver.accept(payload).unwrap());
                 assert_eq!(receiver.alarm(), signalling.alarm);
                 assert_eq!(receiver.value(), signalling.samples[29]);
             }
@@ -668,7 +978,7 @@ mod tests {
         for seed in 0..200 {
             let random = &mut Random::new(seed);
             let payloads = digits_sent(random, 800);
-            let arrived = arrivals(random, payloads.len(), 255);
+            let arrived = arrivals(random, payloads.len(), 127);
             let mut plain = DigitReceiver::new();
             let mut with_voice = DigitReceiver::new();
             for (payload, arrives) in payloads.iter().zip(&arrived) {

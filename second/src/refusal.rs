@@ -1,5 +1,5 @@
 //! Document 01, "Refusal numbers": the table, a name for each number; and those
-//! of document 02 (41 and 42: wish 1).
+//! of document 02 (19: wish 3; 41 and 42: wish 1).
 
 /// A refusal number. 0 stands for "none" where a number is printed.
 pub type Refusal = u8;
@@ -36,6 +36,8 @@ pub const OUT_OF_RANGE: Refusal = 15;
 pub const CODING_TYPE_WRONG: Refusal = 16;
 /// 17: sender: edge not 0 without a change.
 pub const EDGE_WITHOUT_CHANGE: Refusal = 17;
+/// 19: digit and signalling receiver: older payload.
+pub const OLDER_PAYLOAD: Refusal = 19;
 /// 21: writer: lent room too small.
 pub const ROOM_TOO_SMALL: Refusal = 21;
 /// 22: writer: over 255 octets and not last.

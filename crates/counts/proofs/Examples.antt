@@ -34,3 +34,12 @@ arrived = (
   voice-laws .arrives-there 14 9 (omega arith),
   data-laws .arrives-there 8190 3 (omega arith),
 )
+
+-- So is the law of counts behind met: one behind is a step of 255 and of 127; 128 behind in 8 bits is 128, 64 in 7 bits is 64.
+pub behind-met : (step 8 5 4 ≡ 255) × (step 7 5 4 ≡ 127) × (step 8 2 130 ≡ 128) × (step 7 4 68 ≡ 64)
+behind-met = (
+  digit-laws .behind 4 1 (omega arith) (omega arith),
+  signalling-laws .behind 4 1 (omega arith) (omega arith),
+  digit-laws .behind 130 128 (omega arith) (omega arith),
+  signalling-laws .behind 68 64 (omega arith) (omega arith),
+)

@@ -1,8 +1,8 @@
 -- The laws of specs/Laws.antt, proved once over the width, and cited for the five counts.
-use Prim.Native.Nat.{ℕ, suc, _+_, _-_, _*_, _/_, _%_, _^_, _<_}
+use Prim.Native.Nat.{ℕ, suc, _+_, _-_, _*_, _/_, _%_, _^_, _<_, _≤_}
 use mathlib.Core.Path.{_≡_, sym, ap, _∙_}
 use mathlib.Core.Logic.{_↔_}
-use native.Mathlib.Nat.{mod-lt, mod-mod, mod-add-mod, add-mod-mod, mod-eq-of-lt, div-add-mod, add-mul-mod-self-left, add-zero, zero-add, zero-mod, add-comm}
+use native.Mathlib.Nat.{mod-lt, mod-mod, mod-add-mod, add-mod-mod, mod-eq-of-lt, div-add-mod, add-mul-mod-self-left, add-zero, zero-add, zero-mod, add-comm, add-mod-right}
 use native.Mathlib.Omega.{arith}
 use lib.Pow.{pow-pos, mod-mod-pow}
 use Rattle.counts.specs.Round.{onward, step}
@@ -46,6 +46,14 @@ module _ (k : ℕ) where
       in
       sym (step-only d (a % 2 ^ k) ((a + d) % 2 ^ k) round) ∙ mod-eq-of-lt less
 
+  behind : (a d : ℕ) → 0 < d → d ≤ 2 ^ k → step k ((a + d) % 2 ^ k) (a % 2 ^ k) ≡ 2 ^ k - d
+  behind a d some most =
+      let rest : ℕ = 2 ^ k - d in
+      let less : rest < 2 ^ k = omega arith in
+      let once : a + d + rest ≡ a + 2 ^ k = omega arith in
+      ap (step k ((a + d) % 2 ^ k)) (sym (add-mod-right a (2 ^ k)) ∙ ap (λ (n : ℕ). n % 2 ^ k) (sym once))
+      ∙ steps (a + d) rest less
+
   zero-when-equal : (a b : ℕ) → step k a b ≡ 0 ↔ a % 2 ^ k ≡ b % 2 ^ k
   zero-when-equal a b = (
     λ e. ap (λ (n : ℕ). n % 2 ^ k) (sym (add-zero a)) ∙ ap (onward k a) (sym e) ∙ arrives a b,
@@ -75,6 +83,7 @@ module _ (k : ℕ) where
         goes-on = λ a n. mod-add-mod a (2 ^ k) n;
         below = λ a b. mod-lt (b + (2 ^ k - a % 2 ^ k)) (pow-pos k);
         steps = steps;
+        behind = behind;
         arrives = arrives;
         zero-when-equal = zero-when-equal;
         adds = adds;

@@ -2,7 +2,7 @@
 -- once over the width"; document 02, wish 10). proofs/Laws.antt has the proof, once over the width, and cites it for 4, 7, 8
 -- and 13 bits. A count is compared round the width, so a number that is too large for it is no exception; `arrives-there` alone
 -- speaks of a count below the modulus.
-use Prim.Native.Nat.{ℕ, _+_, _%_, _^_, _<_}
+use Prim.Native.Nat.{ℕ, _+_, _-_, _%_, _^_, _<_, _≤_}
 use mathlib.Core.Path.{_≡_}
 use mathlib.Core.Logic.{_↔_}
 use Rattle.counts.specs.Round.{onward, step}
@@ -14,6 +14,8 @@ pub record Laws (k : ℕ) : Type 0 where
   pub below : (a b : ℕ) → step k a b < 2 ^ k
   -- the step from a to a + d is d, for d below the modulus
   pub steps : (a d : ℕ) → d < 2 ^ k → step k (a % 2 ^ k) ((a + d) % 2 ^ k) ≡ d
+  -- the step to a count d behind is what is left of the modulus (document 02, wish 3)
+  pub behind : (a d : ℕ) → 0 < d → d ≤ 2 ^ k → step k ((a + d) % 2 ^ k) (a % 2 ^ k) ≡ 2 ^ k - d
   -- going on by the step arrives at every number, round the width
   pub arrives : (a b : ℕ) → onward k a (step k a b) ≡ b % 2 ^ k
   -- the step is 0 exactly when the counts are equal, round the width

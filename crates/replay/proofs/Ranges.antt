@@ -4,11 +4,11 @@ use mathlib.Core.Path.{_≡_, refl, sym, ap, _∙_}
 use mathlib.Core.List.{List, [], _∷_, _++_, map}
 use mathlib.Core.Bool.{Bool, true, false, cond}
 use native.Mathlib.Omega.{arith}
-use borrow.Author.Tests.{lt-ltb, le-ltb, eqb-true}
+use borrow.Author.Tests.{lt-ltb, le-ltb, eqb-true, ltb-false}
 use lib.Dec.{ltb, eqb}
 use lib.ListN.{length, getD, replicate}
 use Rattle.octets.proofs.Order.{clash, either}
-use Rattle.replay.specs.Periods.{covered, range, lastFrom, Rising, NearFrom, Near, isIn, Among}
+use Rattle.replay.specs.Periods.{covered, range, lastFrom, NearFrom, Near, isIn, Among, freshFrom, freshOf}
 
 pub map-append : {A B : Type 0} (f : A → B) (xs ys : List A) → map f (xs ++ ys) ≡ map f xs ++ map f ys
 map-append f [] ys = refl
@@ -74,13 +74,22 @@ abbrev pub Close : ℕ → List ℕ → Type 0
 Close gap [] = Unit
 Close gap (a ∷ more) = Chain gap a more
 
-pub chain : (gap a : ℕ) (more : List ℕ) → Rising a more → NearFrom gap a more → Chain gap a more
-chain gap a [] rising near = tt
-chain gap a (b ∷ bs) rising near = (rising .0, near .0, chain gap b bs (rising .1) (near .1))
+-- the fresh ones are in order
+chain-if : (gap a b : ℕ) (bs : List ℕ) (t : Bool) → ltb b a ≡ t
+    → (NearFrom gap a (freshFrom a bs) → Chain gap a (freshFrom a bs))
+    → (NearFrom gap b (freshFrom b bs) → Chain gap b (freshFrom b bs))
+    → NearFrom gap a (cond t (freshFrom a bs) (b ∷ freshFrom b bs))
+    → Chain gap a (cond t (freshFrom a bs) (b ∷ freshFrom b bs))
+chain-if gap a b bs true is older newer near = older near
+chain-if gap a b bs false is older newer near = (ltb-false b a is, near .0, newer (near .1))
 
-pub close : (gap : ℕ) (arrivals : List ℕ) → Rising 0 arrivals → Near gap arrivals → Close gap arrivals
-close gap [] rising near = tt
-close gap (a ∷ more) rising near = chain gap a more (rising .1) near
+pub chain : (gap a : ℕ) (more : List ℕ) → NearFrom gap a (freshFrom a more) → Chain gap a (freshFrom a more)
+chain gap a [] near = tt
+chain gap a (b ∷ bs) near = chain-if gap a b bs (ltb b a) refl (chain gap a bs) (chain gap b bs) near
+
+pub close : (gap : ℕ) (arrivals : List ℕ) → Near gap (freshOf arrivals) → Close gap (freshOf arrivals)
+close gap [] near = tt
+close gap (a ∷ more) near = chain gap a more near
 
 -- those to come lie at or after the one before, and the last is the last
 pub last-low : (gap a : ℕ) (more : List ℕ) → Chain gap a more → a ≤ lastFrom a more

@@ -7,15 +7,16 @@ use mathlib.Core.Option.{Option, none, some}
 use mathlib.Core.Logic.{⊎-elim}
 use native.Mathlib.Nat.{mod-mod}
 use native.Mathlib.Omega.{arith}
-use borrow.Author.Tests.{lt-ltb, le-ltb}
+use borrow.Author.Tests.{lt-ltb, le-ltb, ltb-true}
 use lib.Dec.{ltb}
 use lib.ListN.{length, length-map, getD, replicate}
 use Rattle.octets.proofs.Order.{lt-or-le}
+use Rattle.refusal.specs.Numbers.{sound, olderPayload}
 use Rattle.counts.specs.Round.{step}
 use Rattle.counts.proofs.Laws.{laws}
-use Rattle.replay.specs.Rule.{stepTaken, fillCount}
-use Rattle.replay.specs.Periods.{Payload, pay, Mark, filled, carried, told, heldAt, covered, cell, range, firstOf, lastFrom, spanOf}
-use Rattle.replay.specs.Claims.{Receiver, recordOf, byStep, Takes, Passes, Acts, ByRule, joinedTo, broughtBy, Replays, Replay, SecondKeeps, TwoReceivers}
+use Rattle.replay.specs.Rule.{older, fillCount}
+use Rattle.replay.specs.Periods.{Payload, pay, Mark, filled, carried, told, heldAt, covered, cell, range, firstOf, lastFrom, spanOf, freshFrom, freshOf, dueFrom, dueOf, BehindFrom, Behind}
+use Rattle.replay.specs.Claims.{Receiver, recordOf, byStep, stepOf, Takes, Passes, Leaves, Meets, Acts, ByRule, Told, joinedTo, broughtBy, answerTo, answersOf, Replays, Replay, TakenAsFresh, SecondKeeps, TwoReceivers}
 use Rattle.replay.proofs.Ranges.{map-append, map-replicate, length-range, range-append, map-range, map-constant, inside, outside, here, before, beyond, last-low, none-before, none-beyond, covers-more, Chain, Close, close}
 
 cell-true : {A : Type 0} (S : ℕ → A) (arrivals : List ℕ) (j : ℕ) → covered arrivals j ≡ true → cell S arrivals j ≡ some (S j)
@@ -95,10 +96,17 @@ head-is e = cc
 tail-is : {A : Type 0} {a b : A} {xs ys : List A} → a ∷ xs ≡ b ∷ ys → xs ≡ ys
 tail-is e = cc
 
-module _ {A : Type 0} (k : ℕ) (r : Receiver A) (brings : r .Event → Option (Payload A)) (S : ℕ → A) (gap : ℕ) where
+module _ {A : Type 0} (k far : ℕ) (r : Receiver A) (brings : r .Event → Option (Payload A)) (S : ℕ → A) (gap back : ℕ) (apart : Told k far gap back) where
   -- the record of some events has the cells of n periods from s on
   abbrev Shows : r .State → List (r .Event) → List ℕ → ℕ → ℕ → Type 0
   Shows s es arrivals from n = map told (recordOf r s es) ≡ map (cell S arrivals) (range from n)
+
+  -- what is answered to an event that brings o, and after it
+  abbrev Answers : r .State → (e : r .Event) → Option (Payload A) → List (r .Event) → List ℕ → Type 0
+  Answers s e o es due = answerTo o (r .number s e) (answersOf r brings (r .after s e) es) ≡ due
+
+  answer : (s : r .State) (e : r .Event) (p : Payload A) (es : List (r .Event)) (n : ℕ) (due : List ℕ) → r .number s e ≡ n → answersOf r brings (r .after s e) es ≡ due → Answers s e (some p) es (n ∷ due)
+  answer s e p es n due is rest = cc
 
   -- what passes leaves the record to the events after it
   passed : (s : r .State) (e : r .Event) (es : List (r .Event)) (arrivals : List ℕ) (from n : ℕ) → Passes k r s e → Shows (r .after s e) es arrivals from n → Shows s (e ∷ es) arrivals from n
@@ -124,13 +132,27 @@ module _ {A : Type 0} (k : ℕ) (r : Receiver A) (brings : r .Event → Option (
       ∙ ap (map (cell S (b ∷ bs))) (sym (range-append from d n))
 
   -- the step from a to b, which is at most the gap
-  step-is : gap < 2 ^ k → (last a b : ℕ) → last % 2 ^ k ≡ a % 2 ^ k → a ≤ b → b ≤ a + gap → step k last (b % 2 ^ k) ≡ b - a
-  step-is less last a b e low high =
+  step-is : (last a b : ℕ) → last % 2 ^ k ≡ a % 2 ^ k → a ≤ b → b ≤ a + gap → step k last (b % 2 ^ k) ≡ b - a
+  step-is last a b e low high =
+      let ahead : gap ≤ far = apart .ahead in
+      let room : far + back < 2 ^ k = apart .behind in
       let sum : b ≡ a + (b - a) = omega arith in
       let small : b - a < 2 ^ k = omega arith in
       ap (λ (x : ℕ). (b % 2 ^ k + (2 ^ k - x)) % 2 ^ k) (e ∙ sym (mod-mod a (2 ^ k)))
       ∙ ap (λ (x : ℕ). step k (a % 2 ^ k) (x % 2 ^ k)) sum
       ∙ laws k .steps a (b - a) small
+
+  -- the step from a back to b, which is not far behind
+  step-back : (last a b : ℕ) → last % 2 ^ k ≡ a % 2 ^ k → b < a → a ≤ b + back → far < step k last (b % 2 ^ k)
+  step-back last a b e less near =
+      let room : far + back < 2 ^ k = apart .behind in
+      let sum : b + (a - b) ≡ a = omega arith in
+      let is : step k last (b % 2 ^ k) ≡ 2 ^ k - (a - b) =
+      ap (λ (x : ℕ). (b % 2 ^ k + (2 ^ k - x)) % 2 ^ k) (e ∙ sym (mod-mod a (2 ^ k)))
+      ∙ ap (λ (x : ℕ). step k (x % 2 ^ k) (b % 2 ^ k)) (sym sum)
+      ∙ laws k .behind b (a - b) (omega arith) (omega arith)
+      in
+      rw is (omega arith)
 
   -- after the payload a: the arrivals still to come
   abbrev Later : List (r .Event) → Type 0
@@ -138,98 +160,153 @@ module _ {A : Type 0} (k : ℕ) (r : Receiver A) (brings : r .Event → Option (
       (s : r .State) (a : ℕ) (more : List ℕ)
       → r .heard s ≡ true
       → r .last s % 2 ^ k ≡ a % 2 ^ k
-      → Chain gap a more
+      → Chain gap a (freshFrom a more)
+      → BehindFrom back a more
       → broughtBy brings es ≡ map (pay k S) more
-      → Shows s es more (a + 3) (lastFrom a more - a)
+      → Shows s es (freshFrom a more) (a + 3) (lastFrom a (freshFrom a more) - a) × (answersOf r brings s es ≡ dueFrom a more)
 
-  later-takes : gap < 2 ^ k → (e : r .Event) (es : List (r .Event)) → Later es → (s : r .State) (a b : ℕ) (bs : List ℕ)
+  later-takes : (e : r .Event) (es : List (r .Event)) → Later es → (s : r .State) (a b : ℕ) (bs : List ℕ)
       → Takes k r s e (pay k S b)
       → r .heard s ≡ true
       → r .last s % 2 ^ k ≡ a % 2 ^ k
-      → Chain gap a (b ∷ bs)
+      → Chain gap a (b ∷ freshFrom b bs)
+      → BehindFrom back b bs
       → broughtBy brings es ≡ map (pay k S) bs
-      → Shows s (e ∷ es) (b ∷ bs) (a + 3) (lastFrom b bs - a)
-  later-takes less e es after s a b bs t heard last chain brought =
+      → Shows s (e ∷ es) (b ∷ freshFrom b bs) (a + 3) (lastFrom b (freshFrom b bs) - a) × Answers s e (some (pay k S b)) es (sound ∷ dueFrom b bs)
+  later-takes e es after s a b bs t heard last chain behind brought =
+      let fs : List ℕ = freshFrom b bs in
       let low : a ≤ b = chain .0 in
       let high : b ≤ a + gap = chain .1 in
-      let far : b ≤ lastFrom b bs = last-low gap b bs (chain .2) in
-      let step-taken : stepTaken (r .heard s) (step k (r .last s) (b % 2 ^ k)) ≡ b - a = rw heard (step-is less (r .last s) a b last low high) in
-      let shown : map told (r .appends s e) ≡ map (cell S (b ∷ bs)) (range (a + 3) (b - a)) =
+      let end : b ≤ lastFrom b fs = last-low gap b fs (chain .2) in
+      let step-taken : stepOf k r s (pay k S b) ≡ b - a = rw heard (step-is (r .last s) a b last low high) in
+      let shown : map told (r .appends s e) ≡ map (cell S (b ∷ fs)) (range (a + 3) (b - a)) =
       ap (map told) (t .appends)
       ∙ ap (λ (d : ℕ). map told (byStep d (t .fill) (S b ∷ S (b + 1) ∷ S (b + 2) ∷ []))) step-taken
-      ∙ step-cells S bs gap (t .fill) (b - a) a b (omega arith) (chain .2)
+      ∙ step-cells S fs gap (t .fill) (b - a) a b (omega arith) (chain .2)
       in
-      let rest : Shows (r .after s e) es bs (b + 3) (lastFrom b bs - b) =
-      after (r .after s e) b bs (t .heard) (t .last ∙ mod-mod b (2 ^ k)) (chain .2) brought
-      in
+      let rest = after (r .after s e) b bs (t .heard) (t .last ∙ mod-mod b (2 ^ k)) (chain .2) behind brought in
       let sum : a + 3 + (b - a) ≡ b + 3 = omega arith in
-      let parts : b - a + (lastFrom b bs - b) ≡ lastFrom b bs - a = omega arith in
-      took s e es b bs (a + 3) (b - a) (chain .2) shown sum rest ∙ ap (λ (n : ℕ). map (cell S (b ∷ bs)) (range (a + 3) n)) parts
+      let parts : b - a + (lastFrom b fs - b) ≡ lastFrom b fs - a = omega arith in
+      (
+        took s e es b fs (a + 3) (b - a) (chain .2) shown sum (rest .0) ∙ ap (λ (n : ℕ). map (cell S (b ∷ fs)) (range (a + 3) n)) parts,
+        answer s e (pay k S b) es sound (dueFrom b bs) (t .number) (rest .1),
+      )
 
-  later-event : gap < 2 ^ k → (e : r .Event) (es : List (r .Event)) → Later es → (s : r .State) (a : ℕ) (o : Option (Payload A)) (more : List ℕ)
-      → Acts k r s e o
+  later-leaves : (e : r .Event) (es : List (r .Event)) → Later es → (s : r .State) (a b : ℕ) (bs : List ℕ)
+      → Leaves r s e
       → r .heard s ≡ true
       → r .last s % 2 ^ k ≡ a % 2 ^ k
-      → Chain gap a more
-      → joinedTo o (broughtBy brings es) ≡ map (pay k S) more
-      → Shows s (e ∷ es) more (a + 3) (lastFrom a more - a)
-  later-event less e es after s a none more p heard last chain brought =
-      passed s e es more (a + 3) (lastFrom a more - a) p (after (r .after s e) a more (p .heard ∙ heard) (p .last ∙ last) chain brought)
-  later-event less e es after s a (some p) [] t heard last chain brought = no-payload (sym brought)
-  later-event less e es after s a (some p) (b ∷ bs) t heard last chain brought =
-      later-takes less e es after s a b bs (subst (λ (q : Payload A). Takes k r s e q) (head-is brought) t) heard last chain (tail-is brought)
+      → Chain gap a (freshFrom a bs)
+      → BehindFrom back a bs
+      → broughtBy brings es ≡ map (pay k S) bs
+      → Shows s (e ∷ es) (freshFrom a bs) (a + 3) (lastFrom a (freshFrom a bs) - a) × Answers s e (some (pay k S b)) es (olderPayload ∷ dueFrom a bs)
+  later-leaves e es after s a b bs left heard last chain behind brought =
+      let rest = after s a bs heard last chain behind brought in
+      (
+        ap (λ (x : List (Mark A)). map told (x ++ recordOf r (r .after s e) es)) (left .appends)
+        ∙ ap (λ (x : r .State). map told (recordOf r x es)) (left .stands)
+        ∙ rest .0,
+        answer s e (pay k S b) es olderPayload (dueFrom a bs) (left .number) (ap (λ (x : r .State). answersOf r brings x es) (left .stands) ∙ rest .1),
+      )
 
-  later : gap < 2 ^ k → ByRule k r brings → (es : List (r .Event)) → Later es
-  later less rule [] s a [] heard last chain brought = let nought : a - a ≡ 0 = omega arith in rw nought refl
-  later less rule [] s a (b ∷ bs) heard last chain brought = no-payload brought
-  later less rule (e ∷ es) s a more heard last chain brought =
-      later-event less e es (later less rule es) s a (brings e) more (rule s e) heard last chain brought
+  -- by whether b is behind
+  later-meets : (e : r .Event) (es : List (r .Event)) → Later es → (s : r .State) (a b : ℕ) (bs : List ℕ) (t : Bool)
+      → ltb b a ≡ t
+      → Acts k far r s e (some (pay k S b))
+      → r .heard s ≡ true
+      → r .last s % 2 ^ k ≡ a % 2 ^ k
+      → Chain gap a (cond t (freshFrom a bs) (b ∷ freshFrom b bs))
+      → a ≤ b + back
+      → BehindFrom back (cond t a b) bs
+      → broughtBy brings es ≡ map (pay k S) bs
+      → Shows s (e ∷ es) (cond t (freshFrom a bs) (b ∷ freshFrom b bs)) (a + 3) (lastFrom a (cond t (freshFrom a bs) (b ∷ freshFrom b bs)) - a)
+      × Answers s e (some (pay k S b)) es (cond t (olderPayload ∷ dueFrom a bs) (sound ∷ dueFrom b bs))
+  later-meets e es after s a b bs true is meets heard last chain near behind brought =
+      let step-here : ℕ = step k (r .last s) (b % 2 ^ k) in
+      let late : older far (stepOf k r s (pay k S b)) ≡ true = rw heard (lt-ltb far step-here (step-back (r .last s) a b last (ltb-true b a is) near)) in
+      later-leaves e es after s a b bs (subst (Meets k r s e (pay k S b)) late meets) heard last chain behind brought
+  later-meets e es after s a b bs false is meets heard last chain near behind brought =
+      let ahead : gap ≤ far = apart .ahead in
+      let high : b ≤ a + gap = chain .1 in
+      let step-here : step k (r .last s) (b % 2 ^ k) ≡ b - a = step-is (r .last s) a b last (chain .0) high in
+      let within : step k (r .last s) (b % 2 ^ k) ≤ far = rw step-here (omega arith) in
+      let in-time : older far (stepOf k r s (pay k S b)) ≡ false = rw heard (le-ltb far (step k (r .last s) (b % 2 ^ k)) within) in
+      later-takes e es after s a b bs (subst (Meets k r s e (pay k S b)) in-time meets) heard last chain behind brought
+
+  later-event : (e : r .Event) (es : List (r .Event)) → Later es → (s : r .State) (a : ℕ) (o : Option (Payload A)) (more : List ℕ)
+      → Acts k far r s e o
+      → r .heard s ≡ true
+      → r .last s % 2 ^ k ≡ a % 2 ^ k
+      → Chain gap a (freshFrom a more)
+      → BehindFrom back a more
+      → joinedTo o (broughtBy brings es) ≡ map (pay k S) more
+      → Shows s (e ∷ es) (freshFrom a more) (a + 3) (lastFrom a (freshFrom a more) - a) × Answers s e o es (dueFrom a more)
+  later-event e es after s a none more p heard last chain behind brought =
+      let rest = after (r .after s e) a more (p .heard ∙ heard) (p .last ∙ last) chain behind brought in
+      (passed s e es (freshFrom a more) (a + 3) (lastFrom a (freshFrom a more) - a) p (rest .0), rest .1)
+  later-event e es after s a (some p) [] acts heard last chain behind brought = no-payload (sym brought)
+  later-event e es after s a (some p) (b ∷ bs) acts heard last chain behind brought =
+      later-meets e es after s a b bs (ltb b a) refl (subst (λ (q : Payload A). Acts k far r s e (some q)) (head-is brought) acts) heard last chain (behind .0) (behind .1) (tail-is brought)
+
+  later : ByRule k far r brings → (es : List (r .Event)) → Later es
+  later rule [] s a [] heard last chain behind brought = let nought : a - a ≡ 0 = omega arith in (rw nought refl, refl)
+  later rule [] s a (b ∷ bs) heard last chain behind brought = no-payload brought
+  later rule (e ∷ es) s a more heard last chain behind brought =
+      later-event e es (later rule es) s a (brings e) more (rule s e) heard last chain behind brought
 
   -- from a fresh receiver on
   abbrev First : List (r .Event) → Type 0
   First es =
       (s : r .State) (arrivals : List ℕ)
       → r .heard s ≡ false
-      → Close gap arrivals
+      → Close gap (freshOf arrivals)
+      → Behind back arrivals
       → broughtBy brings es ≡ map (pay k S) arrivals
-      → Shows s es arrivals (firstOf arrivals) (spanOf arrivals)
+      → Shows s es (freshOf arrivals) (firstOf (freshOf arrivals)) (spanOf (freshOf arrivals)) × (answersOf r brings s es ≡ dueOf arrivals)
 
-  first-takes : gap < 2 ^ k → ByRule k r brings → (e : r .Event) (es : List (r .Event)) (s : r .State) (a : ℕ) (more : List ℕ)
+  first-takes : ByRule k far r brings → (e : r .Event) (es : List (r .Event)) (s : r .State) (a : ℕ) (more : List ℕ)
       → Takes k r s e (pay k S a)
       → r .heard s ≡ false
-      → Chain gap a more
+      → Chain gap a (freshFrom a more)
+      → BehindFrom back a more
       → broughtBy brings es ≡ map (pay k S) more
-      → Shows s (e ∷ es) (a ∷ more) a (lastFrom a more - a + 3)
-  first-takes less rule e es s a more t heard chain brought =
-      let step-taken : stepTaken (r .heard s) (step k (r .last s) (a % 2 ^ k)) ≡ 3 = rw heard refl in
-      let shown : map told (r .appends s e) ≡ map (cell S (a ∷ more)) (range a 3) =
+      → Shows s (e ∷ es) (a ∷ freshFrom a more) a (lastFrom a (freshFrom a more) - a + 3) × Answers s e (some (pay k S a)) es (sound ∷ dueFrom a more)
+  first-takes rule e es s a more t heard chain behind brought =
+      let fs : List ℕ = freshFrom a more in
+      let step-taken : stepOf k r s (pay k S a) ≡ 3 = rw heard refl in
+      let shown : map told (r .appends s e) ≡ map (cell S (a ∷ fs)) (range a 3) =
       ap (map told) (t .appends)
       ∙ ap (λ (d : ℕ). map told (byStep d (t .fill) (S a ∷ S (a + 1) ∷ S (a + 2) ∷ []))) step-taken
-      ∙ high-cells S more gap (t .fill) a a refl
+      ∙ high-cells S fs gap (t .fill) a a refl
       in
-      let rest : Shows (r .after s e) es more (a + 3) (lastFrom a more - a) =
-      later less rule es (r .after s e) a more (t .heard) (t .last ∙ mod-mod a (2 ^ k)) chain brought
-      in
-      let parts : 3 + (lastFrom a more - a) ≡ lastFrom a more - a + 3 = omega arith in
-      took s e es a more a 3 chain shown refl rest ∙ ap (λ (n : ℕ). map (cell S (a ∷ more)) (range a n)) parts
+      let rest = later rule es (r .after s e) a more (t .heard) (t .last ∙ mod-mod a (2 ^ k)) chain behind brought in
+      let parts : 3 + (lastFrom a fs - a) ≡ lastFrom a fs - a + 3 = omega arith in
+      (
+        took s e es a fs a 3 chain shown refl (rest .0) ∙ ap (λ (n : ℕ). map (cell S (a ∷ fs)) (range a n)) parts,
+        answer s e (pay k S a) es sound (dueFrom a more) (t .number) (rest .1),
+      )
 
-  first-event : gap < 2 ^ k → ByRule k r brings → (e : r .Event) (es : List (r .Event)) → First es → (s : r .State) (o : Option (Payload A)) (arrivals : List ℕ)
-      → Acts k r s e o
+  first-event : ByRule k far r brings → (e : r .Event) (es : List (r .Event)) → First es → (s : r .State) (o : Option (Payload A)) (arrivals : List ℕ)
+      → Acts k far r s e o
       → r .heard s ≡ false
-      → Close gap arrivals
+      → Close gap (freshOf arrivals)
+      → Behind back arrivals
       → joinedTo o (broughtBy brings es) ≡ map (pay k S) arrivals
-      → Shows s (e ∷ es) arrivals (firstOf arrivals) (spanOf arrivals)
-  first-event less rule e es after s none arrivals p heard close brought =
-      passed s e es arrivals (firstOf arrivals) (spanOf arrivals) p (after (r .after s e) arrivals (p .heard ∙ heard) close brought)
-  first-event less rule e es after s (some p) [] t heard close brought = no-payload (sym brought)
-  first-event less rule e es after s (some p) (a ∷ more) t heard close brought =
-      first-takes less rule e es s a more (subst (λ (q : Payload A). Takes k r s e q) (head-is brought) t) heard close (tail-is brought)
+      → Shows s (e ∷ es) (freshOf arrivals) (firstOf (freshOf arrivals)) (spanOf (freshOf arrivals)) × Answers s e o es (dueOf arrivals)
+  first-event rule e es after s none arrivals p heard close behind brought =
+      let rest = after (r .after s e) arrivals (p .heard ∙ heard) close behind brought in
+      (passed s e es (freshOf arrivals) (firstOf (freshOf arrivals)) (spanOf (freshOf arrivals)) p (rest .0), rest .1)
+  first-event rule e es after s (some p) [] acts heard close behind brought = no-payload (sym brought)
+  first-event rule e es after s (some p) (a ∷ more) acts heard close behind brought =
+      let meets : Acts k far r s e (some (pay k S a)) = subst (λ (q : Payload A). Acts k far r s e (some q)) (head-is brought) acts in
+      let in-time : older far (stepOf k r s (pay k S a)) ≡ false = rw heard (le-ltb far 3 (apart .first)) in
+      first-takes rule e es s a more (subst (Meets k r s e (pay k S a)) in-time meets) heard close behind (tail-is brought)
 
-  first : gap < 2 ^ k → ByRule k r brings → (es : List (r .Event)) → First es
-  first less rule [] s [] heard close brought = refl
-  first less rule [] s (a ∷ more) heard close brought = no-payload brought
-  first less rule (e ∷ es) s arrivals heard close brought =
-      first-event less rule e es (first less rule es) s (brings e) arrivals (rule s e) heard close brought
+  first : ByRule k far r brings → (es : List (r .Event)) → First es
+  first rule [] s [] heard close behind brought = (refl, refl)
+  first rule [] s (a ∷ more) heard close behind brought = no-payload brought
+  first rule (e ∷ es) s arrivals heard close behind brought =
+      first-event rule e es (first rule es) s (brings e) arrivals (rule s e) heard close behind brought
 
 -- Place by place.
 module _ {A : Type 0} (S : ℕ → A) (gap : ℕ) (marks : List (Mark A)) where
@@ -274,9 +351,13 @@ module _ {A : Type 0} (S : ℕ → A) (gap : ℕ) (marks : List (Mark A)) where
       place (a ∷ more) j close e = held a (lastFrom a more - a + 3) j (a ∷ more) e (none-first a more j close) (none-last a more j close)
 
 pub replay : Replay
-replay A k r brings S s es gap arrivals rule fresh brought less rising near =
-    let c = close gap arrivals rising near in
-    by-place S gap (recordOf r s es) arrivals c (first k r brings S gap less rule es s arrivals fresh c brought)
+replay A k far r brings S s es gap back arrivals rule fresh brought apart arriving =
+    let c = close gap arrivals (arriving .near) in
+    by-place S gap (recordOf r s es) (freshOf arrivals) c (first k far r brings S gap back apart rule es s arrivals fresh c (arriving .behind) brought .0)
+
+pub taken-as-fresh : TakenAsFresh
+taken-as-fresh A k far r brings S s es gap back arrivals rule fresh brought apart arriving =
+    first k far r brings S gap back apart rule es s arrivals fresh (close gap arrivals (arriving .near)) (arriving .behind) brought .1
 
 -- what a cell holds is the sender's, and is covered
 cell-some : {A : Type 0} (t : Bool) (a b : A) → cond t (some a) none ≡ some b → (t ≡ true) × (a ≡ b)
@@ -289,11 +370,11 @@ second-keeps A S arrivals others marks marks2 among one two j a e =
     two .place j ∙ cell-true S others j (covers-more arrivals others j among (given .0)) ∙ ap some (given .1)
 
 pub two-receivers : TwoReceivers
-two-receivers A k r brings S s es es2 gap arrivals others rule fresh less brought brought2 rising rising2 among near near2 =
-    let one = replay A k r brings S s es gap arrivals rule fresh brought less rising near in
-    let two = replay A k r brings S s es2 gap others rule fresh brought2 less rising2 near2 in
+two-receivers A k far r brings S s es es2 gap back arrivals others rule fresh brought brought2 apart arriving arriving2 among =
+    let one = replay A k far r brings S s es gap back arrivals rule fresh brought apart arriving in
+    let two = replay A k far r brings S s es2 gap back others rule fresh brought2 apart arriving2 in
     record {
       first = one;
       second = two;
-      keeps = second-keeps A S arrivals others (recordOf r s es) (recordOf r s es2) among one two;
+      keeps = second-keeps A S (freshOf arrivals) (freshOf others) (recordOf r s es) (recordOf r s es2) among one two;
     }

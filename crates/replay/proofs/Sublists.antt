@@ -1,15 +1,17 @@
--- Some of a list, in its order: what holds of each, and their order, stays.
+-- Some of a list, in its order or in any: what holds of each stays, and in order all are fresh.
 use Prim.Native.Nat.{ℕ, zero, suc, _≤_}
-use mathlib.Core.Path.{_≡_, refl, ap}
+use mathlib.Core.Path.{_≡_, refl, sym, ap, ap₂, subst, _∙_}
 use mathlib.Core.Bool.{true, false}
-use mathlib.Core.List.{List, [], _∷_, map}
+use mathlib.Core.List.{List, [], _∷_, _++_, map}
 use native.Mathlib.Omega.{arith}
-use borrow.Author.Tests.{eq-eqb}
+use borrow.Author.Tests.{eq-eqb, le-ltb}
 use lib.Dec.{eqb}
 use lib.ListN.{length}
 use Rattle.octets.proofs.Order.{either}
-use Rattle.replay.specs.Examples.{picked}
-use Rattle.replay.specs.Periods.{Rising, isIn, Among, Sublist, none-left, left-out, taken}
+use Rattle.replay.specs.Examples.{picked, at, chosen}
+use Rattle.replay.specs.Periods.{freshFrom, freshOf, NearFrom, Near, BehindFrom, Behind, Rising, isIn, Among, Sublist, none-left, left-out, taken, In, here, further, AllIn}
+use Rattle.replay.specs.Claims.{Arriving}
+use Rattle.replay.proofs.Ranges.{map-append}
 
 abbrev pub Each : {A : Type 0} → (A → Type 0) → List A → Type 0
 Each P [] = Unit
@@ -78,3 +80,64 @@ pub sublist-among : (xs ys : List ℕ) → Sublist xs ys → Among xs ys
 sublist-among xs ys none-left = tt
 sublist-among xs ys (left-out {x} {xs = more} {ys = bs} s) = among-still more bs x (sublist-among more bs s)
 sublist-among xs ys (taken {x} {xs = more} {ys = bs} s) = (rw (eq-eqb x x refl) refl, among-still more bs x (sublist-among more bs s))
+
+-- all of a list in any order
+one-in : {A : Type 0} (P : A → Type 0) (x : A) (ys : List A) → In x ys → Each P ys → P x
+one-in P x ys here e = e .0
+one-in P x ys (further {ys = more} i) e = one-in P x more i (e .1)
+
+pub each-in : {A : Type 0} (P : A → Type 0) (xs ys : List A) → AllIn xs ys → Each P ys → Each P xs
+each-in P [] ys all e = tt
+each-in P (x ∷ xs) ys all e = (one-in P x ys (all .0) e, each-in P xs ys (all .1) e)
+
+all-further : {A : Type 0} (xs ys : List A) (y : A) → AllIn xs ys → AllIn xs (y ∷ ys)
+all-further [] ys y all = tt
+all-further (x ∷ xs) ys y all = (further (all .0), all-further xs ys y (all .1))
+
+pub sublist-in : {A : Type 0} (xs ys : List A) → Sublist xs ys → AllIn xs ys
+sublist-in xs ys none-left = tt
+sublist-in xs ys (left-out {x} {xs = rest} {ys = more} s) = all-further rest more x (sublist-in rest more s)
+sublist-in xs ys (taken {x} {xs = rest} {ys = more} s) = (here, all-further rest more x (sublist-in rest more s))
+
+all-join : {A : Type 0} (xs ys zs : List A) → AllIn xs zs → AllIn ys zs → AllIn (xs ++ ys) zs
+all-join [] ys zs all all2 = all2
+all-join (x ∷ xs) ys zs all all2 = (all .0, all-join xs ys zs (all .1) all2)
+
+at-in : {A : Type 0} (n : ℕ) (xs : List A) → AllIn (at n xs) xs
+at-in n [] = tt
+at-in zero (x ∷ xs) = (here, tt)
+at-in (suc n) (x ∷ xs) = all-further (at n xs) xs x (at-in n xs)
+
+pub chosen-in : {A : Type 0} (ns : List ℕ) (xs : List A) → AllIn (chosen ns xs) xs
+chosen-in [] xs = tt
+chosen-in (n ∷ ns) xs = all-join (at n xs) (chosen ns xs) xs (at-in n xs) (chosen-in ns xs)
+
+at-map : {A B : Type 0} (f : A → B) (n : ℕ) (xs : List A) → map f (at n xs) ≡ at n (map f xs)
+at-map f n [] = refl
+at-map f zero (x ∷ xs) = refl
+at-map f (suc n) (x ∷ xs) = at-map f n xs
+
+pub chosen-map : {A B : Type 0} (f : A → B) (ns : List ℕ) (xs : List A) → map f (chosen ns xs) ≡ chosen ns (map f xs)
+chosen-map f [] xs = refl
+chosen-map {B} f (n ∷ ns) xs = map-append f (at n xs) (chosen ns xs) ∙ ap₂ (λ (l r : List B). l ++ r) (at-map f n xs) (chosen-map f ns xs)
+
+-- arrivals in order are all fresh, and none is behind
+rising-fresh-from : (a : ℕ) (bs : List ℕ) → Rising a bs → freshFrom a bs ≡ bs
+rising-fresh-from a [] r = refl
+rising-fresh-from a (b ∷ bs) r = rw (le-ltb b a (r .0)) (ap {B = List ℕ} (λ l. b ∷ l) (rising-fresh-from b bs (r .1)))
+
+pub rising-fresh : (arrivals : List ℕ) → Rising 0 arrivals → freshOf arrivals ≡ arrivals
+rising-fresh [] r = refl
+rising-fresh (a ∷ more) r = ap {B = List ℕ} (λ l. a ∷ l) (rising-fresh-from a more (r .1))
+
+rising-behind-from : (back a : ℕ) (bs : List ℕ) → Rising a bs → BehindFrom back a bs
+rising-behind-from back a [] r = tt
+rising-behind-from back a (b ∷ bs) r = let low : a ≤ b = r .0 in rw (le-ltb b a low) (omega arith, rising-behind-from back b bs (r .1))
+
+pub in-order : (gap back : ℕ) (arrivals : List ℕ) → Rising 0 arrivals → Near gap arrivals → Arriving gap back arrivals
+in-order gap back [] r near = record { near = tt; behind = tt }
+in-order gap back (a ∷ more) r near =
+    record {
+      near = subst (Near gap) (sym (rising-fresh (a ∷ more) r)) near;
+      behind = rising-behind-from back a more (r .1);
+    }

@@ -1,29 +1,34 @@
--- The bound on the gap is met and is sharp: a receiver with no more than the rule needs, whose periods are numbers. Proved in
--- proofs/Examples.antt.
-use Prim.Native.Nat.{ℕ, zero, suc, _+_, _-_, _^_}
+-- The bounds are met and are sharp; and what they cost. A receiver with no more than the rule needs, whose periods are numbers.
+-- Proved in proofs/Examples.antt.
+use Prim.Native.Nat.{ℕ, zero, suc, _+_, _-_, _^_, _<_, _≤_}
 use mathlib.Core.Path.{_≡_}
-use mathlib.Core.List.{List, [], _∷_, map}
-use mathlib.Core.Bool.{Bool, true, false}
-use mathlib.Core.Option.{Option, some}
+use mathlib.Core.List.{List, [], _∷_, _++_, map}
+use mathlib.Core.Bool.{Bool, true, false, cond}
+use mathlib.Core.Option.{Option, none, some}
+use Rattle.refusal.specs.Numbers.{sound, olderPayload}
 use Rattle.counts.specs.Round.{step}
-use Rattle.replay.specs.Rule.{stepTaken}
-use Rattle.replay.specs.Periods.{Payload, pay, Mark}
-use Rattle.replay.specs.Claims.{Receiver, byStep, recordOf, Replays, ByRule}
+use Rattle.replay.specs.Rule.{stepTaken, older}
+use Rattle.replay.specs.Periods.{Payload, pay, Mark, heldAt}
+use Rattle.replay.specs.Claims.{Receiver, byStep, recordOf, answersOf, Replays, ByRule}
 
 pub record Bare : Type 0 where
   pub heard : Bool
   pub last : ℕ
 
+abbrev pub stepFrom : ℕ → Bare → Payload ℕ → ℕ
+stepFrom k s p = stepTaken (s .heard) (step k (s .last) (p .number))
+
 -- It fills with 0.
-abbrev pub bare : ℕ → Receiver ℕ
-bare k =
+abbrev pub bare : ℕ → ℕ → Receiver ℕ
+bare k far =
     record {
       State = Bare;
       Event = Payload ℕ;
       heard = λ s. s .heard;
       last = λ s. s .last;
-      appends = λ s p. byStep (stepTaken (s .heard) (step k (s .last) (p .number))) 0 (p .windows);
-      after = λ s p. record { heard = true; last = p .number };
+      number = λ s p. cond (older far (stepFrom k s p)) olderPayload sound;
+      appends = λ s p. cond (older far (stepFrom k s p)) [] (byStep (stepFrom k s p) 0 (p .windows));
+      after = λ s p. cond (older far (stepFrom k s p)) s (record { heard = true; last = p .number });
     }
 
 abbrev pub unheard : Bare
@@ -33,27 +38,58 @@ unheard = record { heard = false; last = 0 }
 abbrev pub numbers : ℕ → ℕ
 numbers j = j
 
-abbrev pub marksOf : ℕ → List ℕ → List (Mark ℕ)
-marksOf k arrivals = recordOf (bare k) unheard (map (pay k numbers) arrivals)
+abbrev pub marksOf : ℕ → ℕ → List ℕ → List (Mark ℕ)
+marksOf k far arrivals = recordOf (bare k far) unheard (map (pay k numbers) arrivals)
+
+abbrev pub answered : ℕ → ℕ → List ℕ → List ℕ
+answered k far arrivals = answersOf (bare k far) some unheard (map (pay k numbers) arrivals)
 
 -- It goes by the rule.
 abbrev pub BareByRule : Type 0
-BareByRule = (k : ℕ) → ByRule k (bare k) some
+BareByRule = (k far : ℕ) → ByRule k far (bare k far) some
 
--- The payloads number 0 and 2 ^ k - 1, with a static repeat of each: the most that two arrivals may be apart.
+-- The payloads number 1 and n + 1, with a static repeat of each, and 0 behind them: the most that two fresh arrivals may be apart
+-- is the farthest step n, and the most that one may be behind is n + 1, where both fill the modulus.
 abbrev pub FarthestReplays : Type 0
-FarthestReplays = (k : ℕ) → Replays numbers (0 ∷ 0 ∷ (2 ^ k - 1) ∷ (2 ^ k - 1) ∷ []) (marksOf k (0 ∷ 0 ∷ (2 ^ k - 1) ∷ (2 ^ k - 1) ∷ []))
+FarthestReplays =
+    (k n : ℕ)
+    → n + (n + 1) < 2 ^ k
+    → 3 ≤ n
+    → Replays numbers (1 ∷ 1 ∷ (n + 1) ∷ (n + 1) ∷ []) (marksOf k n (1 ∷ 1 ∷ (n + 1) ∷ 0 ∷ (n + 1) ∷ []))
 
--- One more is read as a step of 0, by every receiver that goes by the rule: the record is not what the arrivals demand.
+-- One more ahead is taken as older, by every receiver that goes by the rule: the record is not what the arrivals demand.
 abbrev pub OneMoreFails : Type 1
 OneMoreFails =
-    (A : Type 0) (k : ℕ) (r : Receiver A) (brings : r .Event → Option (Payload A)) (S : ℕ → A) (s : r .State) (e e2 : r .Event) (a : ℕ)
-    → ByRule k r brings
+    (A : Type 0) (k far : ℕ) (r : Receiver A) (brings : r .Event → Option (Payload A)) (S : ℕ → A) (s : r .State) (e e2 : r .Event) (a : ℕ)
+    → ByRule k far r brings
+    → 3 ≤ far
+    → far + 1 < 2 ^ k
     → r .heard s ≡ false
     → brings e ≡ some (pay k S a)
-    → brings e2 ≡ some (pay k S (a + 2 ^ k))
-    → Replays S (a ∷ (a + 2 ^ k) ∷ []) (recordOf r s (e ∷ e2 ∷ []))
+    → brings e2 ≡ some (pay k S (a + (far + 1)))
+    → Replays S (a ∷ (a + (far + 1)) ∷ []) (recordOf r s (e ∷ e2 ∷ []))
     → ⊥
+
+-- One more behind is taken as fresh.
+abbrev pub OneMoreBehindFails : Type 1
+OneMoreBehindFails =
+    (A : Type 0) (k far : ℕ) (r : Receiver A) (brings : r .Event → Option (Payload A)) (S : ℕ → A) (s : r .State) (e e2 : r .Event) (a : ℕ)
+    → ByRule k far r brings
+    → 3 ≤ far
+    → far < 2 ^ k
+    → r .heard s ≡ false
+    → brings e ≡ some (pay k S (a + (2 ^ k - far)))
+    → brings e2 ≡ some (pay k S a)
+    → Replays S ((a + (2 ^ k - far)) ∷ []) (recordOf r s (e ∷ e2 ∷ []))
+    → ⊥
+
+-- What the wish costs, in 7 bits with a farthest step of 63. After 63 payloads lost in a row, 1 to 63, what follows is taken as older
+-- until the numbers come round: 64 to 127 are, 128 counts as 0 again, and 129 is then replayed as if it were 1.
+-- And a receiver that gets more may carry less: where 9 overtakes 5, the periods 5, 6 and 7 are lost.
+pub record Costs : Type 0 where
+  pub long-loss : answered 7 63 (0 ∷ 64 ∷ 65 ∷ 127 ∷ 128 ∷ 129 ∷ []) ≡ sound ∷ olderPayload ∷ olderPayload ∷ olderPayload ∷ sound ∷ sound ∷ []
+  pub gets-less : map (heldAt 0 (marksOf 7 63 (0 ∷ 5 ∷ []))) (5 ∷ 6 ∷ 7 ∷ []) ≡ some 5 ∷ some 6 ∷ some 7 ∷ []
+  pub gets-more : map (heldAt 0 (marksOf 7 63 (0 ∷ 9 ∷ 5 ∷ []))) (5 ∷ 6 ∷ 7 ∷ []) ≡ none ∷ none ∷ none ∷ []
 
 -- A way to name some of a list: g are left out and one is taken, and so on.
 abbrev pub picked : {A : Type 0} → List ℕ → List A → List A
@@ -61,3 +97,13 @@ picked [] xs = []
 picked (g ∷ gs) [] = []
 picked (zero ∷ gs) (x ∷ xs) = x ∷ picked gs xs
 picked (suc g ∷ gs) (x ∷ xs) = picked (g ∷ gs) xs
+
+-- A way to name some of a list in any order, by their places.
+abbrev pub at : {A : Type 0} → ℕ → List A → List A
+at n [] = []
+at zero (x ∷ xs) = x ∷ []
+at (suc n) (x ∷ xs) = at n xs
+
+abbrev pub chosen : {A : Type 0} → List ℕ → List A → List A
+chosen [] xs = []
+chosen (n ∷ ns) xs = at n xs ++ chosen ns xs

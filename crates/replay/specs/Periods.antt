@@ -8,6 +8,7 @@ use mathlib.Core.Bool.{Bool, true, false, cond}
 use mathlib.Core.Option.{Option, none, some}
 use lib.Dec.{ltb, eqb}
 use lib.ListN.{getD}
+use Rattle.refusal.specs.Numbers.{sound, olderPayload}
 
 -- What a payload brings: its sequence, and its three windows, oldest first.
 pub record Payload (A : Type 0) : Type 0 where
@@ -60,8 +61,26 @@ abbrev pub spanOf : List ℕ → ℕ
 spanOf [] = 0
 spanOf (a ∷ more) = lastFrom a more - a + 3
 
--- "No two successive arrivals .. are more than" `gap` "periods apart", where a came before these. That they are in order is
--- `Rising`.
+-- Demand 3 "reads "arrived" as arrived and taken as fresh" (document 02, wish 3). The fresh ones of arrivals, where a was the last
+-- fresh one: those that are not behind the last fresh one. A number may come again: it is then fresh again, at a step of 0.
+abbrev pub freshFrom : ℕ → List ℕ → List ℕ
+freshFrom a [] = []
+freshFrom a (b ∷ bs) = cond (ltb b a) (freshFrom a bs) (b ∷ freshFrom b bs)
+
+abbrev pub freshOf : List ℕ → List ℕ
+freshOf [] = []
+freshOf (a ∷ more) = a ∷ freshFrom a more
+
+-- What is answered to each arrival: 0 to the fresh ones, "19 older payload" to the others.
+abbrev pub dueFrom : ℕ → List ℕ → List ℕ
+dueFrom a [] = []
+dueFrom a (b ∷ bs) = cond (ltb b a) (olderPayload ∷ dueFrom a bs) (sound ∷ dueFrom b bs)
+
+abbrev pub dueOf : List ℕ → List ℕ
+dueOf [] = []
+dueOf (a ∷ more) = sound ∷ dueFrom a more
+
+-- "successive fresh arrivals at most" `gap` "periods apart", where a came before these.
 abbrev pub NearFrom : ℕ → ℕ → List ℕ → Type 0
 NearFrom gap a [] = Unit
 NearFrom gap a (b ∷ bs) = (b ≤ a + gap) × NearFrom gap b bs
@@ -70,7 +89,16 @@ abbrev pub Near : ℕ → List ℕ → Type 0
 Near gap [] = Unit
 Near gap (a ∷ more) = NearFrom gap a more
 
--- In order, from a number on. A static repeat counts as the payload it repeats, so a number may come again.
+-- "Older ones mixed in, 1 to" `back` "periods behind the last fresh one": no arrival is further behind it, where that is a.
+abbrev pub BehindFrom : ℕ → ℕ → List ℕ → Type 0
+BehindFrom back a [] = Unit
+BehindFrom back a (b ∷ bs) = (a ≤ b + back) × BehindFrom back (cond (ltb b a) a b) bs
+
+abbrev pub Behind : ℕ → List ℕ → Type 0
+Behind back [] = Unit
+Behind back (a ∷ more) = BehindFrom back a more
+
+-- In order, from a number on: then all are fresh. A static repeat counts as the payload it repeats, so a number may come again.
 abbrev pub Rising : ℕ → List ℕ → Type 0
 Rising a [] = Unit
 Rising a (b ∷ bs) = (a ≤ b) × Rising b bs
@@ -89,3 +117,12 @@ pub data Sublist {A : Type 0} : List A → List A → Type 0 where
   none-left : Sublist [] []
   left-out : {x : A} {xs ys : List A} → Sublist xs ys → Sublist xs (x ∷ ys)
   taken : {x : A} {xs ys : List A} → Sublist xs ys → Sublist (x ∷ xs) (x ∷ ys)
+
+-- Each of a list is one of another: in any order, and any number of times.
+pub data In {A : Type 0} (x : A) : List A → Type 0 where
+  here : {ys : List A} → In x (x ∷ ys)
+  further : {y : A} {ys : List A} → In x ys → In x (y ∷ ys)
+
+abbrev pub AllIn : {A : Type 0} → List A → List A → Type 0
+AllIn [] ys = Unit
+AllIn (x ∷ xs) ys = In x ys × AllIn xs ys

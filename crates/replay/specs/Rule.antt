@@ -1,13 +1,19 @@
--- The receivers' rule, once for digits and signalling (document 01, "Receivers"): which periods a payload appends, by its step. The
--- fax replay counts octets by `carriedCount`.
+-- The receivers' rule, once for digits and signalling (document 01, "Receivers"; document 02, wish 3): which payloads are older, and
+-- which periods another one appends, by its step. The fax replay counts octets by `carriedCount`.
 use Prim.Native.Nat.{ℕ, _-_, min}
 use mathlib.Core.List.{List}
 use mathlib.Core.Bool.{Bool, cond}
+use lib.Dec.{ltb}
 use lib.ListN.{drop}
 
 -- "First payload: append all three windows (house)": a step of 3.
 abbrev pub stepTaken : Bool → ℕ → ℕ
 stepTaken heard step = cond heard step 3
+
+-- "take steps of 64 to 127 for signalling, and 128 to 255 for digits, as older and change nothing": those beyond the farthest step
+-- that is replayed. A first payload, at a step of 3, is never older.
+abbrev pub older : ℕ → ℕ → Bool
+older farthest step = ltb farthest step
 
 -- "Step 4 or more: step - 3 filled periods, then three."
 abbrev pub fillCount : ℕ → ℕ
