@@ -2,7 +2,7 @@
 use mathlib.Core.Path.{refl}
 use Rattle.digits.specs.Layout.{digitsRead}
 use Rattle.dialled.specs.Receiver.{received}
-use Rattle.dialled.specs.Examples.{Steps, AfterVoice, NotTaken}
+use Rattle.dialled.specs.Examples.{Steps, AfterVoice, NotTaken, OlderOnes}
 
 pub steps : Steps
 unfolding received digitsRead
@@ -15,3 +15,7 @@ after-voice = refl
 pub not-taken : NotTaken
 unfolding received digitsRead
 not-taken = refl
+
+pub older-ones : OlderOnes
+unfolding received digitsRead
+older-ones = refl

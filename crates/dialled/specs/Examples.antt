@@ -1,4 +1,5 @@
--- Worked runs of a digit receiver (document 01, "Receivers"), on the definitions. Proved in proofs/Examples.antt.
+-- Worked runs of a digit receiver (document 01, "Receivers"; document 02, wish 3), on the definitions. Proved in
+-- proofs/Examples.antt.
 use Prim.Native.Nat.{ℕ}
 use mathlib.Core.Path.{_≡_}
 use mathlib.Core.List.{List, [], _∷_}
@@ -33,7 +34,7 @@ appends fills fill carried periods receiver =
       receiver = receiver;
     }
 
--- The first payload, then the same again, then steps 1, 2, 3, 4 and 255, round 256.
+-- The first payload, then the same again, then steps 1, 2, 3, 4 and 127, round 256.
 abbrev pub Steps : Type 0
 Steps =
     received freshReceiver (payload 254)
@@ -42,7 +43,7 @@ Steps =
     ∷ received (heardAt 254) (payload 0)
     ∷ received (heardAt 254) (payload 1)
     ∷ received (heardAt 254) (payload 2)
-    ∷ received (heardAt 254) (payload 253)
+    ∷ received (heardAt 254) (payload 125)
     ∷ []
     ≡ appends 0 (off 0) 3 (on 1 0 ∷ on 2 0 ∷ on 3 0 ∷ []) (heardAt 254)
     ∷ appends 0 (off 0) 0 (off 0 ∷ off 0 ∷ off 0 ∷ []) (heardAt 254)
@@ -50,7 +51,7 @@ Steps =
     ∷ appends 0 (off 0) 2 (on 2 0 ∷ on 3 0 ∷ off 0 ∷ []) (heardAt 0)
     ∷ appends 0 (off 0) 3 (on 1 0 ∷ on 2 0 ∷ on 3 0 ∷ []) (heardAt 1)
     ∷ appends 1 (on 3 0) 3 (on 1 0 ∷ on 2 0 ∷ on 3 0 ∷ []) (heardAt 2)
-    ∷ appends 252 (on 3 0) 3 (on 1 0 ∷ on 2 0 ∷ on 3 0 ∷ []) (heardAt 253)
+    ∷ appends 124 (on 3 0) 3 (on 1 0 ∷ on 2 0 ∷ on 3 0 ∷ []) (heardAt 125)
     ∷ []
 
 -- After voice a gap is filled with off, until a period is carried; a payload of the same sequence carries none.
@@ -66,14 +67,39 @@ AfterVoice =
     ∷ []
 
 -- A refused payload appends nothing, and the receiver stands.
-abbrev pub NotTaken : Type 0
-NotTaken =
-    received (heardAt 254) (2 ∷ 64 ∷ 32 ∷ 3 ∷ 32 ∷ 2 ∷ 32 ∷ 1 ∷ [])
-    ≡ record {
-      number = 14;
+abbrev refuses : ℕ → Receiver → Received
+refuses number receiver =
+    record {
+      number = number;
       fills = 0;
       fill = off 0;
       carried = 0;
       periods = off 0 ∷ off 0 ∷ off 0 ∷ [];
-      receiver = heardAt 254;
+      receiver = receiver;
     }
+
+-- a reserved bit, also in an older payload
+abbrev pub NotTaken : Type 0
+NotTaken =
+    received (heardAt 254) (2 ∷ 64 ∷ 32 ∷ 3 ∷ 32 ∷ 2 ∷ 32 ∷ 1 ∷ [])
+    ∷ received (heardAt 254) (253 ∷ 64 ∷ 32 ∷ 3 ∷ 32 ∷ 2 ∷ 32 ∷ 1 ∷ [])
+    ∷ []
+    ≡ refuses 14 (heardAt 254)
+    ∷ refuses 14 (heardAt 254)
+    ∷ []
+
+-- Steps 128 and 255 are older, also after voice; a first payload is never older, whatever its number.
+abbrev pub OlderOnes : Type 0
+OlderOnes =
+    received (heardAt 254) (payload 126)
+    ∷ received (heardAt 254) (payload 253)
+    ∷ received (voiceHeard (heardAt 254)) (payload 253)
+    ∷ received freshReceiver (payload 128)
+    ∷ received freshReceiver (payload 255)
+    ∷ []
+    ≡ refuses 19 (heardAt 254)
+    ∷ refuses 19 (heardAt 254)
+    ∷ refuses 19 (voiceHeard (heardAt 254))
+    ∷ appends 0 (off 0) 3 (on 1 0 ∷ on 2 0 ∷ on 3 0 ∷ []) (heardAt 128)
+    ∷ appends 0 (off 0) 3 (on 1 0 ∷ on 2 0 ∷ on 3 0 ∷ []) (heardAt 255)
+    ∷ []

@@ -1,2 +1,3 @@
 pub mod Receiver
+pub mod Claims
 pub mod Examples

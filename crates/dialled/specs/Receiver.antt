@@ -1,13 +1,13 @@
--- The digit receiver (document 01, "Receivers").
+-- The digit receiver (document 01, "Receivers"; document 02, wish 3).
 use Prim.Native.Nat.{ℕ}
 use mathlib.Core.List.{List, [], _∷_, _++_}
 use mathlib.Core.Bool.{true, false, cond}
 use lib.Dec.{eqb}
 use lib.ListN.{replicate}
-use Rattle.refusal.specs.Numbers.{sound}
+use Rattle.refusal.specs.Numbers.{sound, olderPayload}
 use Rattle.counts.specs.Round.{step}
 use Rattle.counts.specs.declared.DigitCount.{DigitCount}
-use Rattle.replay.specs.Rule.{stepTaken, fillCount, carriedCount, unusedCount, newest}
+use Rattle.replay.specs.Rule.{stepTaken, older, fillCount, carriedCount, unusedCount, newest}
 use Rattle.digits.specs.declared.layout.Window.{Window}
 use Rattle.digits.specs.declared.layout.Digits.{Digits}
 use Rattle.digits.specs.declared.layout.DigitsRead.{DigitsRead}
@@ -19,9 +19,9 @@ use Rattle.digits.specs.Layout.{offWindow, digitsRead}
 abbrev pub freshReceiver : Receiver
 freshReceiver = record { heard = false; last = record { 0 = 0 }; on = false; code = 0 }
 
--- The largest step that is replayed: every step round 256.
+-- The farthest step that is replayed: "take steps of .. 128 to 255 for digits, as older".
 abbrev pub farthest : ℕ
-farthest = 255
+farthest = 127
 
 -- "Step = new sequence minus last, modulo 256"
 abbrev pub stepFrom : Receiver → DigitCount → ℕ
@@ -70,8 +70,12 @@ passedOver r number =
       receiver = r;
     }
 
+-- "as older and change nothing": 19, and only where reading refuses nothing, so "after 15".
+abbrev pub replayed : Receiver → Digits → ℕ → Received
+replayed r d step = cond (older farthest step) (passedOver r olderPayload) (appended r d step)
+
 abbrev pub receivedBy : Receiver → DigitsRead → Received
-receivedBy r (Dialled d) = appended r d (stepFrom r (d .sequence))
+receivedBy r (Dialled d) = replayed r d (stepFrom r (d .sequence))
 receivedBy r (BadDigits number) = passedOver r number
 
 unfoldable pub received : Receiver → List ℕ → Received

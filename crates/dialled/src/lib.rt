@@ -1,10 +1,13 @@
-// The digit receiver (document 01, "Receivers").
+// The digit receiver (document 01, "Receivers"; document 02, wish 3).
 use counts::DigitCount;
 use digits::layout::Digits;
 use digits::layout::DigitsRead;
 use digits::layout::Window;
 ghost use mathlib.Core.Path.{_≡_};
-ghost use Rattle.dialled.specs.Receiver.{freshReceiver, stepFrom, fillOf, periodsOf, receiverAfter, appended, passedOver, received, voiceHeard};
+ghost use Rattle.dialled.specs.Receiver.{freshReceiver, stepFrom, fillOf, periodsOf, receiverAfter, appended, passedOver, replayed, received, voiceHeard};
+
+// The farthest step that is replayed; a payload beyond it is older.
+const FARTHEST: u8 = 127;
 
 // What the next payload is held against: whether one was heard, its sequence, and the state that a fill repeats.
 pub struct Receiver {
@@ -121,6 +124,16 @@ fn passed_over(receiver: Receiver, number: u8) -> Received
     }
 }
 
+// A payload that reads, by its step: an older one changes nothing.
+fn replayed(receiver: Receiver, digits: Digits, step: u8) -> Received
+    ensures { λ r. ⌜ r ≡ replayed receiver digits step ⌝ }
+{
+    if FARTHEST < step {
+        return passed_over(receiver, refusal::OLDER_PAYLOAD);
+    }
+    appended(receiver, digits, step)
+}
+
 // Takes a digits payload.
 pub fn receive(receiver: Receiver, payload: &[u8]) -> Received
     ensures { λ r. ⌜ r ≡ received receiver (now (payload .entry)) ⌝ }
@@ -129,7 +142,7 @@ pub fn receive(receiver: Receiver, payload: &[u8]) -> Received
         DigitsRead::BadDigits(number) => passed_over(receiver, number),
         DigitsRead::Dialled(digits) => {
             let sequence = digits.sequence;
-            appended(receiver, digits, step_from(receiver, sequence))
+            replayed(receiver, digits, step_from(receiver, sequence))
         }
     }
 }

@@ -186,8 +186,7 @@ module _ {A : Type 0} (k far : ℕ) (r : Receiver A) (brings : r .Event → Opti
       in
       let rest = after (r .after s e) b bs (t .heard) (t .last ∙ mod-mod b (2 ^ k)) (chain .2) behind brought in
       let sum : a + 3 + (b - a) ≡ b + 3 = omega arith in
-      let parts : b - a + (lastFrom b fs - b) ≡ lastFrom b fs - a = omega arith in
-      (
+      let parts : b - a + (lastFrom b fs - b) ≡ lastFrom b fs - a = omega arith in (
         took s e es b fs (a + 3) (b - a) (chain .2) shown sum (rest .0) ∙ ap (λ (n : ℕ). map (cell S (b ∷ fs)) (range (a + 3) n)) parts,
         answer s e (pay k S b) es sound (dueFrom b bs) (t .number) (rest .1),
       )
@@ -201,11 +200,10 @@ module _ {A : Type 0} (k far : ℕ) (r : Receiver A) (brings : r .Event → Opti
       → broughtBy brings es ≡ map (pay k S) bs
       → Shows s (e ∷ es) (freshFrom a bs) (a + 3) (lastFrom a (freshFrom a bs) - a) × Answers s e (some (pay k S b)) es (olderPayload ∷ dueFrom a bs)
   later-leaves e es after s a b bs left heard last chain behind brought =
-      let rest = after s a bs heard last chain behind brought in
-      (
+      let rest = after s a bs heard last chain behind brought in (
         ap (λ (x : List (Mark A)). map told (x ++ recordOf r (r .after s e) es)) (left .appends)
-        ∙ ap (λ (x : r .State). map told (recordOf r x es)) (left .stands)
-        ∙ rest .0,
+            ∙ ap (λ (x : r .State). map told (recordOf r x es)) (left .stands)
+            ∙ rest .0,
         answer s e (pay k S b) es olderPayload (dueFrom a bs) (left .number) (ap (λ (x : r .State). answersOf r brings x es) (left .stands) ∙ rest .1),
       )
 
@@ -280,8 +278,7 @@ module _ {A : Type 0} (k far : ℕ) (r : Receiver A) (brings : r .Event → Opti
       ∙ high-cells S fs gap (t .fill) a a refl
       in
       let rest = later rule es (r .after s e) a more (t .heard) (t .last ∙ mod-mod a (2 ^ k)) chain behind brought in
-      let parts : 3 + (lastFrom a fs - a) ≡ lastFrom a fs - a + 3 = omega arith in
-      (
+      let parts : 3 + (lastFrom a fs - a) ≡ lastFrom a fs - a + 3 = omega arith in (
         took s e es a fs a 3 chain shown refl (rest .0) ∙ ap (λ (n : ℕ). map (cell S (a ∷ fs)) (range a n)) parts,
         answer s e (pay k S a) es sound (dueFrom a more) (t .number) (rest .1),
       )

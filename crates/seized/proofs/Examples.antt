@@ -64,3 +64,11 @@ step-1 = refl
 pub fill-content : received (received (heard 100) (100 ∷ 3 ∷ replicate 14 85) .receiver) (payload 104) .fill ≡ 2
 unfolding signallingRead halves received
 fill-content = refl
+
+-- a step of 63 is replayed, with 60 fills; steps of 64 and 127 are older, and alarm, current value and sequence stand
+pub older-ones :
+    (received (heard 5) (payload 68) .fills ≡ 60)
+    × (received (heard 5) (payload 197) ≡ record { number = 19; fills = 0; fill = 0; carried = 0; periods = replicate 30 0; receiver = heard 5 })
+    × (received (heard 5) (payload 132) ≡ record { number = 19; fills = 0; fill = 0; carried = 0; periods = replicate 30 0; receiver = heard 5 })
+unfolding signallingRead halves received
+older-ones = (refl, refl, refl)

@@ -1,14 +1,14 @@
--- The signalling receiver (document 01, "Receivers"). The state holds the last sample of the record, which fills repeat, beside
--- the current value, which a step of 0 sets too.
+-- The signalling receiver (document 01, "Receivers"; document 02, wish 3). The state holds the last sample of the record, which
+-- fills repeat, beside the current value, which a step of 0 sets too.
 use Prim.Native.Nat.{ℕ, _*_}
 use mathlib.Core.List.{List, _++_}
 use mathlib.Core.Bool.{true, false, cond}
 use lib.Dec.{eqb}
 use lib.ListN.{getD, drop, replicate}
-use Rattle.refusal.specs.Numbers.{sound}
+use Rattle.refusal.specs.Numbers.{sound, olderPayload}
 use Rattle.counts.specs.Round.{step}
 use Rattle.counts.specs.declared.SignallingCount.{SignallingCount}
-use Rattle.replay.specs.Rule.{stepTaken, fillCount, carriedCount, unusedCount}
+use Rattle.replay.specs.Rule.{stepTaken, older, fillCount, carriedCount, unusedCount}
 use Rattle.signalling.specs.declared.layout.Signalling.{Signalling}
 use Rattle.signalling.specs.declared.layout.SignallingRead.{SignallingRead}
 use Rattle.seized.specs.declared.Receiver.{Receiver}
@@ -19,9 +19,9 @@ use Rattle.signalling.specs.Layout.{signallingRead}
 abbrev pub freshReceiver : Receiver
 freshReceiver = record { heard = false; last = record { 0 = 0 }; tail = 0; value = 0; alarm = false }
 
--- The largest step that is replayed: every step round 128.
+-- The farthest step that is replayed: "take steps of 64 to 127 for signalling .. as older".
 abbrev pub farthest : ℕ
-farthest = 127
+farthest = 63
 
 -- "Step = new sequence minus last, modulo .. 128"
 abbrev pub stepFrom : Receiver → SignallingCount → ℕ
@@ -72,9 +72,13 @@ passedOver r number =
       receiver = r;
     }
 
+-- "as older and change nothing": 19, and only where reading refuses nothing, so "after 15".
+abbrev pub replayed : Receiver → Signalling → ℕ → Received
+replayed r s step = cond (older farthest step) (passedOver r olderPayload) (appended r s step)
+
 abbrev pub receivedBy : Receiver → SignallingRead → Received
 receivedBy r read =
-    cond (eqb (read .number) sound) (appended r (read .signalling) (stepFrom r (read .signalling .sequence)))
+    cond (eqb (read .number) sound) (replayed r (read .signalling) (stepFrom r (read .signalling .sequence)))
     (passedOver r (read .number))
 
 unfoldable pub received : Receiver → List ℕ → Received

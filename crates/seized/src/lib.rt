@@ -1,8 +1,11 @@
-// The signalling receiver (document 01, "Receivers").
+// The signalling receiver (document 01, "Receivers"; document 02, wish 3).
 use counts::SignallingCount;
 use signalling::layout::Signalling;
 ghost use mathlib.Core.Path.{_≡_};
-ghost use Rattle.seized.specs.Receiver.{freshReceiver, stepFrom, fillOf, periodsOf, receiverAfter, appended, passedOver, received};
+ghost use Rattle.seized.specs.Receiver.{freshReceiver, stepFrom, fillOf, periodsOf, receiverAfter, appended, passedOver, replayed, received};
+
+// The farthest step that is replayed; a payload beyond it is older.
+const FARTHEST: u8 = 63;
 
 // A receiver: whether a payload was accepted before, and its number; the last sample of the record; the current value; the
 // alarm.
@@ -119,6 +122,16 @@ fn passed_over(receiver: Receiver, number: u8) -> Received
     }
 }
 
+// A payload that reads, by its step: an older one changes nothing.
+fn replayed(receiver: Receiver, signalling: Signalling, step: u8) -> Received
+    ensures { λ r. ⌜ r ≡ replayed receiver signalling step ⌝ }
+{
+    if FARTHEST < step {
+        return passed_over(receiver, refusal::OLDER_PAYLOAD);
+    }
+    appended(receiver, signalling, step)
+}
+
 // Takes a signalling payload.
 pub fn receive(receiver: Receiver, payload: &[u8]) -> Received
     ensures { λ r. ⌜ r ≡ received receiver (now (payload .entry)) ⌝ }
@@ -127,7 +140,7 @@ pub fn receive(receiver: Receiver, payload: &[u8]) -> Received
     if read.number == refusal::SOUND {
         let signalling = read.signalling;
         let sequence = signalling.sequence;
-        return appended(receiver, signalling, step_from(receiver, sequence));
+        return replayed(receiver, signalling, step_from(receiver, sequence));
     }
     passed_over(receiver, read.number)
 }

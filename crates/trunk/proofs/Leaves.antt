@@ -25,13 +25,16 @@ use Rattle.fax.specs.Fax.{faxRead}
 use Rattle.digits.specs.declared.layout.DigitsRead.{DigitsRead}
 use Rattle.digits.specs.declared.layout.DigitsRead.the-variants.{Dialled, BadDigits}
 use Rattle.digits.specs.Layout.{digitsRead}
+use Rattle.signalling.specs.declared.layout.SignallingRead.{SignallingRead}
 use Rattle.signalling.specs.Layout.{signallingRead}
 use Rattle.dialled.specs.declared.Receiver as dialled-receiver
 use Rattle.dialled.specs.declared.Received as digits
 use Rattle.dialled.specs.Receiver as dialled
+use Rattle.dialled.proofs.Older as dialled-older
 use Rattle.seized.specs.declared.Receiver as seized-receiver
 use Rattle.seized.specs.declared.Received as signalling
 use Rattle.seized.specs.Receiver as seized
+use Rattle.seized.proofs.Older as seized-older
 use Rattle.faxing.specs.declared.Receiver as fax-receiver
 use Rattle.faxing.specs.declared.Received as fax
 use Rattle.faxing.specs.Replay as faxing
@@ -39,12 +42,12 @@ use Rattle.faxing.proofs.Refused.{refused-stands as fax-refused-stands}
 use Rattle.payload.specs.declared.layout.Layout.{Layout}
 use Rattle.payload.specs.declared.layout.Layout.the-variants.{OfVoice, OfDigits, OfSignalling, OfFax, OfSid, OfData, NoLayout}
 use Rattle.payload.specs.Layout.{layoutOf}
-use Rattle.payload.specs.Content.{Reading, readAs, numberOf, ofVoice, ofDigits, ofSignalling, ofFax, ofSid, ofData}
+use Rattle.payload.specs.Content.{reads, refused, seized as seized-content, readAs, numberOf, ofVoice, ofDigits, ofSignalling, ofFax, ofSid, ofData}
 use Rattle.trunk.specs.declared.Trunk.{Trunk}
 use Rattle.trunk.specs.declared.Told.{Told}
 use Rattle.trunk.specs.Trunk.{refusing, voiceTaken, dialledTo, seizedTo, faxedTo, sidTaken, dataTaken, takenAs, taken}
 use Rattle.trunk.proofs.Cases.{as-layout}
-use Rattle.trunk.specs.Claims.{NumberIsReadings, NumberOfFax, ReadingRefuses, RefusedStands, Leaves}
+use Rattle.trunk.specs.Claims.{Numbers, ReadingRefuses, RefusedStands, Leaves}
 
 -- the trunk after each kind of payload
 abbrev Ends : Trunk → VoiceRead → Type 0
@@ -64,25 +67,19 @@ voice-untoned : (t : Trunk) (read : VoiceRead) → t .digits .on ≡ false → t
 voice-untoned t (Voice sequence coding front) off none = ap (λ (r : dialled-receiver.Receiver). record { digits = r; signalling = t .signalling; fax = t .fax }) (untoned (t .digits) off none)
 voice-untoned t (BadVoice number) off none = refl
 
-digits-leave : (t : Trunk) (read : DigitsRead) → dialledTo t (dialled.receivedBy (t .digits) read) .trunk ≡ record { digits = dialled.receivedBy (t .digits) read .receiver; signalling = t .signalling; fax = t .fax }
-digits-leave t (Dialled d) = refl
-digits-leave t (BadDigits n) = picked (λ (x : Told). x .trunk ≡ t) (eqb n sound) _ _ (λ h. refl) (λ h. refl)
-
 digit-trunk : (t : Trunk) (p : List ℕ) → takenAs OfDigits t p .trunk ≡ record { digits = dialled.received (t .digits) p .receiver; signalling = t .signalling; fax = t .fax }
-unfolding dialled.received
-digit-trunk t p = digits-leave t (digitsRead p)
-
-passed-over-leaves : (t : Trunk) (n : ℕ) → seizedTo t (seized.passedOver (t .signalling) n) .trunk ≡ t
-passed-over-leaves t n = picked (λ (x : Told). x .trunk ≡ t) (eqb n sound) _ _ (λ h. refl) (λ h. refl)
+digit-trunk t p =
+    let got : digits.Received = dialled.received (t .digits) p in
+    picked (λ (x : Told). x .trunk ≡ record { digits = got .receiver; signalling = t .signalling; fax = t .fax }) (eqb (got .number) sound) _ _ (λ h. refl)
+    (λ h. ap (λ (r : dialled-receiver.Receiver). record { digits = r; signalling = t .signalling; fax = t .fax })
+    (sym (ap (λ (a : digits.Received). a .receiver) (dialled-older.older .stands (t .digits) p (eqb-false (got .number) sound h)))))
 
 signalling-trunk : (t : Trunk) (p : List ℕ) → takenAs OfSignalling t p .trunk ≡ record { digits = t .digits; signalling = seized.received (t .signalling) p .receiver; fax = t .fax }
-unfolding seized.received
 signalling-trunk t p =
-    picked (λ (got : signalling.Received). seizedTo t got .trunk ≡ record { digits = t .digits; signalling = got .receiver; fax = t .fax }) (eqb (signallingRead p .number) sound)
-    (seized.appended (t .signalling) (signallingRead p .signalling) (seized.stepFrom (t .signalling) (signallingRead p .signalling .sequence)))
-    (seized.passedOver (t .signalling) (signallingRead p .number))
-    (λ h. refl)
-    (λ h. passed-over-leaves t (signallingRead p .number))
+    let got : signalling.Received = seized.received (t .signalling) p in
+    picked (λ (x : Told). x .trunk ≡ record { digits = t .digits; signalling = got .receiver; fax = t .fax }) (eqb (got .number) sound) _ _ (λ h. refl)
+    (λ h. ap (λ (r : seized-receiver.Receiver). record { digits = t .digits; signalling = r; fax = t .fax })
+    (sym (ap (λ (a : signalling.Received). a .receiver) (seized-older.older .stands (t .signalling) p (eqb-false (got .number) sound h)))))
 
 fax-trunk : (t : Trunk) (p : List ℕ) → takenAs OfFax t p .trunk ≡ record { digits = t .digits; signalling = t .signalling; fax = faxing.received (t .fax) p .receiver }
 fax-trunk t p =
@@ -112,27 +109,11 @@ faxed-number : (t : Trunk) (got : fax.Received) → faxedTo t got .number ≡ go
 faxed-number t got =
     picked (λ (x : Told). x .number ≡ got .number) (eqb (got .number) sound) _ _ (λ h. sym (eqb-true (got .number) sound h)) (λ h. refl)
 
-digits-number : (r : dialled-receiver.Receiver) (read : DigitsRead) → dialled.receivedBy r read .number ≡ numberOf (ofDigits read)
-digits-number r (Dialled d) = refl
-digits-number r (BadDigits number) = refl
-
-received-number : (r : dialled-receiver.Receiver) (p : List ℕ) → dialled.received r p .number ≡ numberOf (ofDigits (digitsRead p))
-unfolding dialled.received
-received-number r p = digits-number r (digitsRead p)
-
-both-ways : (b : Bool) (x y : signalling.Received) (u v : Reading) → x .number ≡ numberOf u → y .number ≡ numberOf v → cond b x y .number ≡ numberOf (cond b u v)
-both-ways true x y u v p q = p
-both-ways false x y u v p q = q
-
-signalling-number : (r : seized-receiver.Receiver) (p : List ℕ) → seized.received r p .number ≡ numberOf (ofSignalling (signallingRead p))
-unfolding seized.received
-signalling-number r p = both-ways (eqb (signallingRead p .number) sound) _ _ _ _ refl refl
-
--- the number under a layout: that of reading, or under fax that of the replay
+-- the number under a layout: that of a receiver or of the fax replay, or of reading
 abbrev numberAs : Layout → Trunk → List ℕ → ℕ
 numberAs (OfVoice r) t p = numberOf (readAs (OfVoice r) p)
-numberAs OfDigits t p = numberOf (readAs OfDigits p)
-numberAs OfSignalling t p = numberOf (readAs OfSignalling p)
+numberAs OfDigits t p = dialled.received (t .digits) p .number
+numberAs OfSignalling t p = seized.received (t .signalling) p .number
 numberAs OfFax t p = faxing.received (t .fax) p .number
 numberAs (OfSid syntax) t p = numberOf (readAs (OfSid syntax) p)
 numberAs OfData t p = numberOf (readAs OfData p)
@@ -144,8 +125,8 @@ number-as (OfVoice r) t p = number (voiceRead r p)
     number : (read : VoiceRead) → voiceTaken t read .number ≡ numberOf (ofVoice p read)
     number (Voice sequence coding front) = refl
     number (BadVoice n) = refl
-number-as OfDigits t p = dialled-number t (dialled.received (t .digits) p) ∙ received-number (t .digits) p
-number-as OfSignalling t p = seized-number t (seized.received (t .signalling) p) ∙ signalling-number (t .signalling) p
+number-as OfDigits t p = dialled-number t (dialled.received (t .digits) p)
+number-as OfSignalling t p = seized-number t (seized.received (t .signalling) p)
 number-as OfFax t p = faxed-number t (faxing.received (t .fax) p)
 number-as (OfSid syntax) t p = number (sidRead syntax p)
   where
@@ -159,39 +140,58 @@ number-as OfData t p = number (dataRead p)
     number (BadData n) = refl
 number-as (NoLayout n) t p = refl
 
-readings : (l : Layout) (t : Trunk) (p : List ℕ) → (l ≡ OfFax → ⊥) → numberAs l t p ≡ numberOf (readAs l p)
-readings (OfVoice r) t p other = refl
-readings OfDigits t p other = refl
-readings OfSignalling t p other = refl
-readings OfFax t p other = absurd (other refl)
-readings (OfSid syntax) t p other = refl
-readings OfData t p other = refl
-readings (NoLayout n) t p other = refl
+readings : (l : Layout) (t : Trunk) (p : List ℕ) → (l ≡ OfDigits → ⊥) → (l ≡ OfSignalling → ⊥) → (l ≡ OfFax → ⊥) → numberAs l t p ≡ numberOf (readAs l p)
+readings (OfVoice r) t p no-digits no-signalling no-fax = refl
+readings OfDigits t p no-digits no-signalling no-fax = absurd (no-digits refl)
+readings OfSignalling t p no-digits no-signalling no-fax = absurd (no-signalling refl)
+readings OfFax t p no-digits no-signalling no-fax = absurd (no-fax refl)
+readings (OfSid syntax) t p no-digits no-signalling no-fax = refl
+readings OfData t p no-digits no-signalling no-fax = refl
+readings (NoLayout n) t p no-digits no-signalling no-fax = refl
 
--- what reading refuses of fax, the replay refuses
+-- what reading refuses, the receivers refuse
+digits-read-refused : (r : dialled-receiver.Receiver) (read : DigitsRead) → (numberOf (ofDigits read) ≡ sound → ⊥) → dialled.receivedBy r read .number ≡ numberOf (ofDigits read)
+digits-read-refused r (Dialled d) h = absurd (h refl)
+digits-read-refused r (BadDigits n) h = refl
+
+signalling-read-refused : (r : seized-receiver.Receiver) (read : SignallingRead) → (numberOf (ofSignalling read) ≡ sound → ⊥) → seized.receivedBy r read .number ≡ numberOf (ofSignalling read)
+signalling-read-refused r read =
+    go (eqb (read .number) sound)
+  where
+    go : (b : Bool)
+        → (numberOf (cond b (reads (seized-content (read .signalling))) (refused (read .number))) ≡ sound → ⊥)
+        → cond b (seized.replayed r (read .signalling) (seized.stepFrom r (read .signalling .sequence))) (seized.passedOver r (read .number)) .number ≡ numberOf (cond b (reads (seized-content (read .signalling))) (refused (read .number)))
+    go true h = absurd (h refl)
+    go false h = refl
+
 fax-read-refused : (r : fax-receiver.Receiver) (p : List ℕ) (read : FaxRead) → (numberOf (ofFax p read) ≡ sound → ⊥) → faxing.receivedBy r p read .number ≡ numberOf (ofFax p read)
 fax-read-refused r p (Fax sequence stamp command front) h = absurd (h refl)
 fax-read-refused r p (BadFax n) h = refl
 
 refused-first : (l : Layout) (t : Trunk) (p : List ℕ) → (numberOf (readAs l p) ≡ sound → ⊥) → numberAs l t p ≡ numberOf (readAs l p)
-unfolding faxing.received
+unfolding dialled.received seized.received faxing.received
 refused-first (OfVoice r) t p h = refl
-refused-first OfDigits t p h = refl
-refused-first OfSignalling t p h = refl
+refused-first OfDigits t p h = digits-read-refused (t .digits) (digitsRead p) h
+refused-first OfSignalling t p h = signalling-read-refused (t .signalling) (signallingRead p) h
 refused-first OfFax t p h = fax-read-refused (t .fax) p (faxRead p) h
 refused-first (OfSid syntax) t p h = refl
 refused-first OfData t p h = refl
 refused-first (NoLayout n) t p h = refl
 
-pub number-is-readings : NumberIsReadings
+-- the number under the layout that was found
+number-at : (t : Trunk) (found : Found) (ptype : ℕ) (p : List ℕ) {l : Layout} → layoutOf found ptype ≡ l → taken t found ptype p .number ≡ numberAs l t p
 unfolding taken
-number-is-readings t found ptype p other =
-    number-as (layoutOf found ptype) t p ∙ readings (layoutOf found ptype) t p other
+number-at t found ptype p e = number-as (layoutOf found ptype) t p ∙ ap (λ (l : Layout). numberAs l t p) e
 
-pub number-of-fax : NumberOfFax
-unfolding taken
-number-of-fax t found ptype p e =
-    number-as (layoutOf found ptype) t p ∙ ap (λ (l : Layout). numberAs l t p) e
+pub numbers : Numbers
+numbers =
+    record {
+      digits = λ t found ptype p e. number-at t found ptype p e;
+      signalling = λ t found ptype p e. number-at t found ptype p e;
+      fax = λ t found ptype p e. number-at t found ptype p e;
+      others = λ t found ptype p no-digits no-signalling no-fax.
+          number-at t found ptype p refl ∙ readings (layoutOf found ptype) t p no-digits no-signalling no-fax;
+    }
 
 pub reading-refuses : ReadingRefuses
 unfolding taken

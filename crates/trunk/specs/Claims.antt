@@ -16,20 +16,19 @@ use Rattle.payload.specs.Layout.{layoutOf}
 use Rattle.trunk.specs.declared.Trunk.{Trunk}
 use Rattle.trunk.specs.Trunk.{taken, refusing}
 
--- The number is that of reading the payload, or of the fax replay under the layout of fax; what reading refuses is refused with its
--- number under every layout; and a refused payload changes nothing and appends nothing.
-abbrev pub NumberIsReadings : Type 0
-NumberIsReadings =
-    (t : Trunk) (found : Found) (ptype : ℕ) (p : List ℕ)
-    → (layoutOf found ptype ≡ OfFax → ⊥)
-    → taken t found ptype p .number ≡ numberOf (payloadRead found ptype p)
+-- The number is that of the digit receiver, the signalling receiver or the fax replay under their layouts, and that of reading the
+-- payload under every other: so 19, 41 and 42 come from these three alone.
+pub record Numbers : Type 0 where
+  pub digits : (t : Trunk) (found : Found) (ptype : ℕ) (p : List ℕ) → layoutOf found ptype ≡ OfDigits → taken t found ptype p .number ≡ dialled.received (t .digits) p .number
+  pub signalling : (t : Trunk) (found : Found) (ptype : ℕ) (p : List ℕ) → layoutOf found ptype ≡ OfSignalling → taken t found ptype p .number ≡ seized.received (t .signalling) p .number
+  pub fax : (t : Trunk) (found : Found) (ptype : ℕ) (p : List ℕ) → layoutOf found ptype ≡ OfFax → taken t found ptype p .number ≡ faxing.received (t .fax) p .number
+  pub others : (t : Trunk) (found : Found) (ptype : ℕ) (p : List ℕ)
+      → (layoutOf found ptype ≡ OfDigits → ⊥)
+      → (layoutOf found ptype ≡ OfSignalling → ⊥)
+      → (layoutOf found ptype ≡ OfFax → ⊥)
+      → taken t found ptype p .number ≡ numberOf (payloadRead found ptype p)
 
-abbrev pub NumberOfFax : Type 0
-NumberOfFax =
-    (t : Trunk) (found : Found) (ptype : ℕ) (p : List ℕ)
-    → layoutOf found ptype ≡ OfFax
-    → taken t found ptype p .number ≡ faxing.received (t .fax) p .number
-
+-- What reading refuses is refused with its number under every layout; and a refused payload changes nothing and appends nothing.
 abbrev pub ReadingRefuses : Type 0
 ReadingRefuses =
     (t : Trunk) (found : Found) (ptype : ℕ) (p : List ℕ)

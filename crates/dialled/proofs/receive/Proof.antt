@@ -1,6 +1,6 @@
 -- `dialled::receive` meets its contract.
 use mathlib.Core.Path.{sym, ap, _∙_}
-use Rattle.dialled.specs.Receiver.{appended}
+use Rattle.dialled.specs.Receiver.{replayed}
 use Rattle.dialled.proofs.ReceiverCases as cases
 use borrow.Author.Needs.{needs}
 use Rattle.dialled.proofs.receive.Statement.{statement}
@@ -21,8 +21,8 @@ enum-known-digits c = search needs
 step-from-requires : tie.Need-step-from-requires
 step-from-requires c κs = search needs
 
-appended-requires : tie.Need-appended-requires
-appended-requires c κs = search needs
+replayed-requires : tie.Need-replayed-requires
+replayed-requires c κs = search needs
 
 returns : tie.Need-returns
 returns c = c .passed-over .ensures ∙ sym (cases.received-by _ _ _ (sym (c .before .before .before .before .read-digits .ensures) ∙ c .before .before .number .given .1))
@@ -30,8 +30,8 @@ returns c = c .passed-over .ensures ∙ sym (cases.received-by _ _ _ (sym (c .be
 returns-2 : tie.Need-returns-2
 returns-2 c =
     let r = c .before .before .before .before .before .before .before .before .args .receiver in
-    c .appended .ensures
-    ∙ ap (appended r (c .before .before .before .before .digits .given .0 .0)) (c .before .step-from .ensures)
+    c .replayed .ensures
+    ∙ ap (replayed r (c .before .before .before .before .digits .given .0 .0)) (c .before .step-from .ensures)
     ∙ sym (cases.received-by _ _ _ (sym (c .before .before .before .before .before .before .read-digits .ensures) ∙ c .before .before .before .before .digits .given .1))
 
 pub receive-spec : {M : Type 1} → statement M
@@ -43,6 +43,6 @@ receive-spec =
     passed-over-requires
     enum-known-digits
     step-from-requires
-    appended-requires
+    replayed-requires
     returns
     returns-2)

@@ -1,6 +1,6 @@
 -- `seized::receive` meets its contract.
 use mathlib.Core.Path.{sym, ap, _∙_}
-use Rattle.seized.specs.Receiver.{appended}
+use Rattle.seized.specs.Receiver.{replayed}
 use Rattle.seized.proofs.ReceiverCases as cases
 use borrow.Author.Needs.{needs}
 use Rattle.seized.proofs.receive.Statement.{statement}
@@ -12,15 +12,15 @@ read-signalling-requires c κs = search needs
 step-from-requires : tie.Need-step-from-requires
 step-from-requires c κs = search needs
 
-appended-requires : tie.Need-appended-requires
-appended-requires c κs = search needs
+replayed-requires : tie.Need-replayed-requires
+replayed-requires c κs = search needs
 
 returns : tie.Need-returns
 returns c =
     let r = c .before .before .before .before .before .before .before .before .args .receiver in
     let read = c .before .before .before .before .before .before .read-signalling in
-    c .appended .ensures
-    ∙ ap (appended r (read .result .signalling)) (c .before .step-from .ensures)
+    c .replayed .ensures
+    ∙ ap (replayed r (read .result .signalling)) (c .before .step-from .ensures)
     ∙ sym (cases.accepted r _ (read .result) (sym (read .ensures)) (c .before .before .before .before .if1 .taken))
 
 passed-over-requires : tie.Need-passed-over-requires
@@ -37,7 +37,7 @@ receive-spec =
     (tie.spec
     read-signalling-requires
     step-from-requires
-    appended-requires
+    replayed-requires
     returns
     passed-over-requires
     returns-2)

@@ -1,0 +1,23 @@
+-- Older payloads (document 02, wish 3), for every receiver and every payload. Proved in proofs/Older.antt.
+use Prim.Native.Nat.{ℕ, _<_}
+use mathlib.Core.Path.{_≡_}
+use mathlib.Core.Logic.{_↔_}
+use mathlib.Core.List.{List}
+use mathlib.Core.Bool.{false}
+use Rattle.refusal.specs.Numbers.{sound, olderPayload}
+use Rattle.digits.specs.declared.layout.Digits.{Digits}
+use Rattle.digits.specs.declared.layout.DigitsRead.the-variants.{Dialled, BadDigits}
+use Rattle.digits.specs.Layout.{digitsRead}
+use Rattle.dialled.specs.declared.Receiver.{Receiver}
+use Rattle.dialled.specs.Receiver.{farthest, stepFrom, passedOver, received}
+
+pub record Older : Type 0 where
+  -- "19 older payload, after 15": what reading refuses is refused with its number, and that is never 19
+  pub after-reading : (r : Receiver) (payload : List ℕ) (number : ℕ) → digitsRead payload ≡ BadDigits number → received r payload ≡ passedOver r number
+  pub not-read : (payload : List ℕ) → digitsRead payload ≡ BadDigits olderPayload → ⊥
+  -- "steps of .. 128 to 255": a payload that reads is refused with 19 exactly when its step lies beyond the farthest
+  pub exactly : (r : Receiver) (payload : List ℕ) (d : Digits) → digitsRead payload ≡ Dialled d → received r payload .number ≡ olderPayload ↔ farthest < stepFrom r (d .sequence)
+  -- "change nothing": whatever the refusal, the receiver is the receiver at entry, and nothing is appended
+  pub stands : (r : Receiver) (payload : List ℕ) → (received r payload .number ≡ sound → ⊥) → received r payload ≡ passedOver r (received r payload .number)
+  -- a first payload is never older
+  pub first : (r : Receiver) (payload : List ℕ) → r .heard ≡ false → received r payload .number ≡ olderPayload → ⊥
