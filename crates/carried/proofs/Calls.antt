@@ -41,12 +41,12 @@ use Rattle.seized.specs.Receiver as seized
 use Rattle.trunk.specs.declared.Trunk.{Trunk}
 use Rattle.trunk.specs.declared.Told.{Told}
 use Rattle.trunk.specs.Trunk.{freshTrunk, taken}
-use Rattle.replay.specs.Periods.{Mark, Sublist}
+use Rattle.replay.specs.Periods.{Mark, AllIn}
 use Rattle.carried.specs.Emissions.{Emission}
 use Rattle.carried.specs.Digits as digits
 use Rattle.carried.specs.Signalling as signalling
-use Rattle.carried.specs.Trunks.{Coming, came, other, toldOf, dialledMarks, digitRecord, seizedMarks, signallingRecord}
-use Rattle.carried.specs.Tied.{Puts, DigitsPut, DigitCallsSent, no-more-digits, digits-on, DigitsReceived, no-more-heard, receives-on, hears-on, SignallingPut, SignallingSent, no-more-samples, samples-on, SignallingReceived, no-more-come, comes-on, typeOf, octetsIn, TrunkTold, no-more-told, tells-on, digitMarks, signallingMarks, CallsAre, DigitCallsCarried, SignallingCallsCarried, FreshTrunk, TrunkDigitCallsCarried, TrunkSignallingCallsCarried}
+use Rattle.carried.specs.Trunks.{Coming, came, other, toldOf, numberOf, numbersOf, dialledMarks, digitRecord, seizedMarks, signallingRecord}
+use Rattle.carried.specs.Tied.{Puts, DigitsPut, DigitCallsSent, no-more-digits, digits-on, DigitsReceived, no-more-heard, receives-on, hears-on, SignallingPut, SignallingSent, no-more-samples, samples-on, SignallingReceived, no-more-come, comes-on, typeOf, octetsIn, TrunkTold, no-more-told, tells-on, digitMarks, signallingMarks, numbersTold, CallsAre, DigitCallsCarried, SignallingCallsCarried, FreshTrunk, TrunkDigitCallsCarried, TrunkSignallingCallsCarried}
 use Rattle.carried.proofs.Digits.{digits-carried}
 use Rattle.carried.proofs.Signalling.{signalling-carried}
 use Rattle.carried.proofs.Trunks.{trunk-digits-carried, trunk-signalling-carried}
@@ -141,19 +141,19 @@ digits-sent s0 n0 es0 ps0 (digits-on s n e es x octets ps call puts more) =
     ap₂ (λ (l r : List Emission). l ++ r) (digits-emitted n (x .answer) octets puts) (digits-sent (x .sender) (digits.numberAfter n (x .answer)) es ps more)
     ∙ ap (λ (t : digit-taken.Taken). digits.emitted n (t .answer) ++ digits.emissions (t .sender) (digits.numberAfter n (t .answer)) es) is
 
-digits-received : (r : digit-receiver.Receiver) (hs : List digits.Heard) (ms : List (Mark Window)) → DigitsReceived r hs ms → ms ≡ digits.marks r hs
-digits-received r0 hs0 ms0 (no-more-heard r) = refl
-digits-received r0 hs0 ms0 (receives-on r p hs x ms call more) =
+digits-received : (r : digit-receiver.Receiver) (hs : List digits.Heard) (xs : List digit-received.Received) → DigitsReceived r hs xs → xs ≡ digits.answers r hs
+digits-received r0 hs0 xs0 (no-more-heard r) = refl
+digits-received r0 hs0 xs0 (receives-on r p hs x xs call more) =
     let is : x ≡ dialled.received r (p .octets) =
     comes-of 1 digit-receive-kinds.ps digit-receive-kinds.r digit-receive-reads.Post _ _ (λ (i : digit-receiver.Receiver × List ℕ). dialled.received (i .0) (i .1)) (λ κs a x s p. p) (r, p .octets) x call
     in
-    ap (λ (l : List (Mark Window)). digits.marksOf x ++ l) (digits-received (x .receiver) hs ms more)
-    ∙ ap (λ (y : digit-received.Received). digits.marksOf y ++ digits.marks (y .receiver) hs) is
-digits-received r0 hs0 ms0 (hears-on r after hs ms call more) =
+    ap (λ (l : List digit-received.Received). x ∷ l) (digits-received (x .receiver) hs xs more)
+    ∙ ap (λ (y : digit-received.Received). y ∷ digits.answers (y .receiver) hs) is
+digits-received r0 hs0 xs0 (hears-on r after hs xs call more) =
     let is : after ≡ dialled.voiceHeard r =
     comes-of 0 hear-voice-kinds.ps hear-voice-kinds.r hear-voice-reads.Post _ _ (λ (i : digit-receiver.Receiver). dialled.voiceHeard i) (λ κs a x s p. p) r after call
     in
-    digits-received after hs ms more ∙ ap (λ (q : digit-receiver.Receiver). digits.marks q hs) is
+    digits-received after hs xs more ∙ ap (λ (q : digit-receiver.Receiver). digits.answers q hs) is
 
 -- signalling
 signalling-put : (d : signalling-layout.Signalling) (room : List ℕ) (at : ℕ) (answer : Put) (left : List ℕ) → SignallingPut d room at answer left → (answer, left) ≡ putBack room at (signallingMade d)
@@ -178,34 +178,35 @@ samples-sent s0 n0 es0 ps0 (samples-on s n e es x octets ps call puts more) =
     ap₂ (λ (l r : List Emission). l ++ r) one (samples-sent (x .sender) (signalling.numberAfter s n x) es ps more)
     ∙ ap (λ (t : signalling-sent.Sent). signalling.emitted s n t ++ signalling.emissions (t .sender) (signalling.numberAfter s n t) es) is
 
-samples-received : (r : signalling-receiver.Receiver) (ps : List Emission) (ms : List (Mark (List ℕ))) → SignallingReceived r ps ms → ms ≡ signalling.marks r ps
-samples-received r0 ps0 ms0 (no-more-come r) = refl
-samples-received r0 ps0 ms0 (comes-on r p ps x ms call more) =
+samples-received : (r : signalling-receiver.Receiver) (ps : List Emission) (xs : List signalling-received.Received) → SignallingReceived r ps xs → xs ≡ signalling.answers r ps
+samples-received r0 ps0 xs0 (no-more-come r) = refl
+samples-received r0 ps0 xs0 (comes-on r p ps x xs call more) =
     let is : x ≡ seized.received r (p .octets) =
     comes-of 1 signalling-receive-kinds.ps signalling-receive-kinds.r signalling-receive-reads.Post _ _ (λ (i : signalling-receiver.Receiver × List ℕ). seized.received (i .0) (i .1)) (λ κs a x s p. p) (r, p .octets) x call
     in
-    ap (λ (l : List (Mark (List ℕ))). signalling.marksOf x ++ l) (samples-received (x .receiver) ps ms more)
-    ∙ ap (λ (y : signalling-received.Received). signalling.marksOf y ++ signalling.marks (y .receiver) ps) is
+    ap (λ (l : List signalling-received.Received). x ∷ l) (samples-received (x .receiver) ps xs more)
+    ∙ ap (λ (y : signalling-received.Received). y ∷ signalling.answers (y .receiver) ps) is
 
 -- a trunk
 told-is : (kind : ℕ) (found : Found) (t : Trunk) (c : Coming) → taken t found (typeOf kind c) (octetsIn c) ≡ toldOf kind found t c
 told-is kind found t (came p) = refl
 told-is kind found t (other ptype octets) = refl
 
--- the records, of which `marks` is what one telling appends
-module _ {A : Type 0} (kind : ℕ) (found : Found) (marks : Told → List (Mark A)) (all : List Told → List (Mark A)) (recordOf : Trunk → List Coming → List (Mark A))
-    (none : [] ≡ all []) (each : (x : Told) (xs : List Told) → all (x ∷ xs) ≡ marks x ++ all xs) (empty : (t : Trunk) → recordOf t [] ≡ [])
-    (comes : (t : Trunk) (c : Coming) (cs : List Coming) → recordOf t (c ∷ cs) ≡ marks (toldOf kind found t c) ++ recordOf (toldOf kind found t c .trunk) cs) where
-  trunk-told : (t : Trunk) (cs : List Coming) (xs : List Told) → TrunkTold kind found t cs xs → all xs ≡ recordOf t cs
-  trunk-told t0 cs0 xs0 (no-more-told t) = sym none ∙ sym (empty t)
+-- the records and the numbers, to which one telling of what comes is joined
+module _ {L : Type 0} (kind : ℕ) (found : Found) (join : Coming → Told → L → L) (all : List Coming → List Told → L) (whole : Trunk → List Coming → L)
+    (none : (t : Trunk) → all [] [] ≡ whole t [])
+    (each : (c : Coming) (cs : List Coming) (x : Told) (xs : List Told) → all (c ∷ cs) (x ∷ xs) ≡ join c x (all cs xs))
+    (comes : (t : Trunk) (c : Coming) (cs : List Coming) → whole t (c ∷ cs) ≡ join c (toldOf kind found t c) (whole (toldOf kind found t c .trunk) cs)) where
+  trunk-told : (t : Trunk) (cs : List Coming) (xs : List Told) → TrunkTold kind found t cs xs → all cs xs ≡ whole t cs
+  trunk-told t0 cs0 xs0 (no-more-told t) = none t
   trunk-told t0 cs0 xs0 (tells-on t c cs x xs call more) =
       let is : x ≡ toldOf kind found t c =
       comes-of 1 take-kinds.ps take-kinds.r take-reads.Post _ _ (λ (i : Trunk × Found × ℕ × List ℕ). taken (i .0) (i .1) (i .2) (i .3)) (λ κs a x s p. p) (t, found, typeOf kind c, octetsIn c) x call
       ∙ told-is kind found t c
       in
-      each x xs
-      ∙ ap (λ (l : List (Mark A)). marks x ++ l) (trunk-told (x .trunk) cs xs more)
-      ∙ ap (λ (y : Told). marks y ++ recordOf (y .trunk) cs) is
+      each c cs x xs
+      ∙ ap (join c x) (trunk-told (x .trunk) cs xs more)
+      ∙ ap (λ (y : Told). join c y (whole (y .trunk) cs)) is
       ∙ sym (comes t c cs)
 
 pub calls-are : CallsAre
@@ -216,14 +217,16 @@ calls-are =
       signalling-sent = samples-sent;
       signalling-received = samples-received;
       trunk-digits = λ found.
-          trunk-told 1 found (λ (x : Told). dialledMarks (x .dialled)) digitMarks (digitRecord found) refl (λ x xs. refl) (λ t. refl) (λ t c cs. refl);
+          trunk-told 1 found (λ (c : Coming) (x : Told) (l : List (Mark Window)). dialledMarks (x .dialled) ++ l) (λ cs xs. digitMarks xs) (digitRecord found) (λ t. refl) (λ c cs x xs. refl) (λ t c cs. refl);
       trunk-signalling = λ found.
-          trunk-told 2 found (λ (x : Told). seizedMarks (x .seized)) signallingMarks (signallingRecord found) refl (λ x xs. refl) (λ t. refl) (λ t c cs. refl);
+          trunk-told 2 found (λ (c : Coming) (x : Told) (l : List (Mark (List ℕ))). seizedMarks (x .seized) ++ l) (λ cs xs. signallingMarks xs) (signallingRecord found) (λ t. refl) (λ c cs x xs. refl) (λ t c cs. refl);
+      trunk-numbers = λ kind found.
+          trunk-told kind found numberOf numbersTold (numbersOf kind found) (λ t. refl) (λ c cs x xs. refl) (λ t c cs. refl);
     }
 
 -- demand 3 of calls
 pub digit-calls-carried : DigitCallsCarried
-digit-calls-carried entries first second marks marks2 calls =
+digit-calls-carried entries first second answers answers2 calls =
     let sender : calls .sender ≡ freshSender =
     comes-of 0 digit-sender-kinds.ps digit-sender-kinds.r digit-sender-reads.Post _ _ (λ (i : Unit {0}). freshSender) (λ κs a x s p. p) (tt {0}) (calls .sender) (calls .sender-fresh)
     in
@@ -231,23 +234,24 @@ digit-calls-carried entries first second marks marks2 calls =
     let payloads : calls .payloads ≡ digits.emissions freshSender 0 entries =
     digits-sent (calls .sender) 0 entries (calls .payloads) (calls .sends) ∙ ap (λ (s : digit-sender.Sender). digits.emissions s 0 entries) sender
     in
-    let one : marks ≡ digits.marks dialled.freshReceiver first =
-    digits-received (calls .receiver) first marks (calls .receives) ∙ ap (λ (r : digit-receiver.Receiver). digits.marks r first) (is-fresh (calls .receiver) (calls .receiver-fresh))
+    let one : answers ≡ digits.answers dialled.freshReceiver first =
+    digits-received (calls .receiver) first answers (calls .receives) ∙ ap (λ (r : digit-receiver.Receiver). digits.answers r first) (is-fresh (calls .receiver) (calls .receiver-fresh))
     in
-    let two : marks2 ≡ digits.marks dialled.freshReceiver second =
-    digits-received (calls .receiver2) second marks2 (calls .receives2) ∙ ap (λ (r : digit-receiver.Receiver). digits.marks r second) (is-fresh (calls .receiver2) (calls .receiver2-fresh))
+    let two : answers2 ≡ digits.answers dialled.freshReceiver second =
+    digits-received (calls .receiver2) second answers2 (calls .receives2) ∙ ap (λ (r : digit-receiver.Receiver). digits.answers r second) (is-fresh (calls .receiver2) (calls .receiver2-fresh))
     in
     rw (one, two)
     (digits-carried entries first second
     (record {
-      some = subst (Sublist (digits.payloadsOf second)) payloads (calls .some);
+      some = subst (AllIn (digits.payloadsOf first)) payloads (calls .some);
+      some2 = subst (AllIn (digits.payloadsOf second)) payloads (calls .some2);
+      arriving = calls .arriving;
+      arriving2 = calls .arriving2;
       more = calls .more;
-      near = calls .near;
-      near2 = calls .near2;
     }))
 
 pub signalling-calls-carried : SignallingCallsCarried
-signalling-calls-carried start entries first second marks marks2 calls =
+signalling-calls-carried start entries first second answers answers2 calls =
     let begun : calls .begun ≡ started start =
     comes-of 0 start-kinds.ps start-kinds.r start-reads.Post _ _ (λ (i : ℕ). started i) (λ κs a x s p. p) start (calls .begun) (calls .starts)
     in
@@ -256,22 +260,22 @@ signalling-calls-carried start entries first second marks marks2 calls =
     samples-sent (calls .begun .sender) 0 entries (calls .payloads) (calls .sends)
     ∙ ap (λ (b : signalling-started.Started). signalling.emissions (b .sender) 0 entries) begun
     in
-    let one : marks ≡ signalling.marks seized.freshReceiver first =
-    samples-received (calls .receiver) first marks (calls .receives) ∙ ap (λ (r : signalling-receiver.Receiver). signalling.marks r first) (is-fresh (calls .receiver) (calls .receiver-fresh))
+    let one : answers ≡ signalling.answers seized.freshReceiver first =
+    samples-received (calls .receiver) first answers (calls .receives) ∙ ap (λ (r : signalling-receiver.Receiver). signalling.answers r first) (is-fresh (calls .receiver) (calls .receiver-fresh))
     in
-    let two : marks2 ≡ signalling.marks seized.freshReceiver second =
-    samples-received (calls .receiver2) second marks2 (calls .receives2) ∙ ap (λ (r : signalling-receiver.Receiver). signalling.marks r second) (is-fresh (calls .receiver2) (calls .receiver2-fresh))
+    let two : answers2 ≡ signalling.answers seized.freshReceiver second =
+    samples-received (calls .receiver2) second answers2 (calls .receives2) ∙ ap (λ (r : signalling-receiver.Receiver). signalling.answers r second) (is-fresh (calls .receiver2) (calls .receiver2-fresh))
     in
     rw (one, two)
     (signalling-carried start entries first second
     (record {
       begins = sym (ap (λ (b : signalling-started.Started). b .number) begun) ∙ calls .begins;
       ten = calls .ten;
-      some = subst (Sublist first) payloads (calls .some);
-      some2 = subst (Sublist second) payloads (calls .some2);
+      some = subst (AllIn first) payloads (calls .some);
+      some2 = subst (AllIn second) payloads (calls .some2);
+      arriving = calls .arriving;
+      arriving2 = calls .arriving2;
       more = calls .more;
-      near = calls .near;
-      near2 = calls .near2;
     }))
 
 -- and of trunks
@@ -284,10 +288,15 @@ digits-told found t cs xs fresh told = calls-are .trunk-digits found t cs xs tol
 signalling-told : (found : Found) (t : Trunk) (cs : List Coming) (xs : List Told) → FreshTrunk t → TrunkTold 2 found t cs xs → signallingMarks xs ≡ signallingRecord found freshTrunk cs
 signalling-told found t cs xs fresh told = calls-are .trunk-signalling found t cs xs told ∙ ap (λ (u : Trunk). signallingRecord found u cs) (fresh-trunk t fresh)
 
+numbers-told : (kind : ℕ) (found : Found) (t : Trunk) (cs : List Coming) (xs : List Told) → FreshTrunk t → TrunkTold kind found t cs xs → numbersTold cs xs ≡ numbersOf kind found freshTrunk cs
+numbers-told kind found t cs xs fresh told = calls-are .trunk-numbers kind found t cs xs told ∙ ap (λ (u : Trunk). numbersOf kind found u cs) (fresh-trunk t fresh)
+
 pub trunk-digit-calls-carried : TrunkDigitCallsCarried
 trunk-digit-calls-carried found entries first second t t2 told told2 given fresh fresh2 calls calls2 =
-    rw (digits-told found t first told fresh calls, digits-told found t2 second told2 fresh2 calls2) (trunk-digits-carried found entries first second given)
+    rw (digits-told found t first told fresh calls, digits-told found t2 second told2 fresh2 calls2, numbers-told 1 found t first told fresh calls, numbers-told 1 found t2 second told2 fresh2 calls2)
+    (trunk-digits-carried found entries first second given)
 
 pub trunk-signalling-calls-carried : TrunkSignallingCallsCarried
 trunk-signalling-calls-carried found start entries first second t t2 told told2 given fresh fresh2 calls calls2 =
-    rw (signalling-told found t first told fresh calls, signalling-told found t2 second told2 fresh2 calls2) (trunk-signalling-carried found start entries first second given)
+    rw (signalling-told found t first told fresh calls, signalling-told found t2 second told2 fresh2 calls2, numbers-told 2 found t first told fresh calls, numbers-told 2 found t2 second told2 fresh2 calls2)
+    (trunk-signalling-carried found start entries first second given)

@@ -1,12 +1,13 @@
 -- The digit receiver goes by the receivers' rule.
-use Prim.Native.Nat.{_%_, _^_}
+use Prim.Native.Nat.{ℕ, _%_, _^_}
 use mathlib.Core.Path.{_≡_, refl, ap, _∙_}
 use mathlib.Core.List.{List, [], _∷_, _++_, map}
-use mathlib.Core.Bool.{true, false}
+use mathlib.Core.Bool.{Bool, true, false}
 use mathlib.Core.Option.{Option, none, some}
 use borrow.Author.Tests.{eqb-true}
 use lib.Dec.{eqb}
 use lib.ListN.{replicate}
+use Rattle.refusal.specs.Numbers.{sound, olderPayload}
 use Rattle.octets.proofs.Order.{either}
 use Rattle.counts.specs.Round.{step}
 use Rattle.digits.specs.declared.layout.Window.{Window}
@@ -16,14 +17,27 @@ use Rattle.digits.specs.declared.layout.DigitsRead.the-variants.{Dialled, BadDi
 use Rattle.dialled.specs.declared.Receiver.{Receiver}
 use Rattle.dialled.specs.declared.Received.{Received}
 use Rattle.digits.specs.Layout.{offWindow, digitsRead}
-use Rattle.dialled.specs.Receiver.{stepFrom, fillOf, receiverAfter, appended}
+use Rattle.dialled.specs.Receiver.{farthest, stepFrom, fillOf, receiverAfter, appended, passedOver, received, voiceHeard}
 use Rattle.dialled.proofs.ReceiverCases.{received-by}
-use Rattle.replay.specs.Rule.{fillCount}
+use Rattle.replay.specs.Rule.{older, fillCount}
 use Rattle.replay.specs.Periods.{Payload, Mark, filled, carried}
 use Rattle.replay.specs.Claims as replays
 use Rattle.replay.proofs.Steps.{in-use, heard-at-zero, same-at-zero}
 use Rattle.carried.specs.Emissions.{Emission}
-use Rattle.carried.specs.Digits.{Heard, came, voice, marksOf, answered, receiverNext, marks}
+use Rattle.carried.specs.Digits.{Heard, came, voice, answers, marksOf, marksIn}
+
+-- what an event brings about
+abbrev numberTo : Receiver → Heard → ℕ
+numberTo r (came p) = received r (p .octets) .number
+numberTo r voice = sound
+
+abbrev answered : Receiver → Heard → List (Mark Window)
+answered r (came p) = marksOf (received r (p .octets))
+answered r voice = []
+
+abbrev pub receiverNext : Receiver → Heard → Receiver
+receiverNext r (came p) = received r (p .octets) .receiver
+receiverNext r voice = voiceHeard r
 
 abbrev pub digitReceiver : replays.Receiver Window
 digitReceiver =
@@ -32,6 +46,7 @@ digitReceiver =
       Event = Heard;
       heard = λ r. r .heard;
       last = λ r. r .last .0;
+      number = numberTo;
       appends = answered;
       after = receiverNext;
     }
@@ -72,15 +87,26 @@ after-last r d =
     (eqb at 0)
     refl
 
-acts : (r : Receiver) (p : Emission) (read : DigitsRead) → digitsRead (p .octets) ≡ read → replays.Acts 8 digitReceiver r (came p) (readPayload read)
-acts r p (Dialled d) e =
-    let is = received-by r (p .octets) (Dialled d) e in
+-- a payload that reads, by whether its step lies beyond the farthest
+meets : (r : Receiver) (p : Emission) (d : Digits) (late : Bool)
+    → digitsRead (p .octets) ≡ Dialled d
+    → older farthest (stepFrom r (d .sequence)) ≡ late
+    → replays.Meets 8 digitReceiver r (came p) (record { number = d .sequence .0; windows = windowsOf d }) late
+meets r p d true e late =
+    let is : received r (p .octets) ≡ passedOver r olderPayload = received-by r (p .octets) (Dialled d) e ∙ rw late refl in
+    record { number = ap (λ (a : Received). a .number) is; appends = ap marksOf is; stands = ap (λ (a : Received). a .receiver) is }
+meets r p d false e late =
+    let is : received r (p .octets) ≡ appended r d (stepFrom r (d .sequence)) = received-by r (p .octets) (Dialled d) e ∙ rw late refl in
     record {
       fill = fillOf r (stepFrom r (d .sequence));
+      number = ap (λ (a : Received). a .number) is;
       appends = ap marksOf is ∙ appended-is r d;
       heard = ap (λ (a : Received). a .receiver .heard) is ∙ after-heard r d;
       last = ap (λ (a : Received). a .receiver .last .0 % 2 ^ 8) is ∙ after-last r d;
     }
+
+acts : (r : Receiver) (p : Emission) (read : DigitsRead) → digitsRead (p .octets) ≡ read → replays.Acts 8 farthest digitReceiver r (came p) (readPayload read)
+acts r p (Dialled d) e = meets r p d (older farthest (stepFrom r (d .sequence))) e refl
 acts r p (BadDigits refusal) e =
     let is = received-by r (p .octets) (BadDigits refusal) e in
     record {
@@ -89,10 +115,11 @@ acts r p (BadDigits refusal) e =
       last = ap (λ (a : Received). a .receiver .last .0 % 2 ^ 8) is;
     }
 
-pub by-rule : replays.ByRule 8 digitReceiver brings
+pub by-rule : replays.ByRule 8 farthest digitReceiver brings
 by-rule r (came p) = acts r p (digitsRead (p .octets)) refl
 by-rule r voice = record { appends = refl; heard = refl; last = refl }
 
-pub record-is : (r : Receiver) (hs : List Heard) → replays.recordOf digitReceiver r hs ≡ marks r hs
+pub record-is : (r : Receiver) (hs : List Heard) → replays.recordOf digitReceiver r hs ≡ marksIn (answers r hs)
 record-is r [] = refl
-record-is r (h ∷ hs) = ap (λ (ms : List (Mark Window)). answered r h ++ ms) (record-is (receiverNext r h) hs)
+record-is r (came p ∷ hs) = ap (λ (ms : List (Mark Window)). marksOf (received r (p .octets)) ++ ms) (record-is (received r (p .octets) .receiver) hs)
+record-is r (voice ∷ hs) = record-is (voiceHeard r) hs

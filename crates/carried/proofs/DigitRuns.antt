@@ -9,15 +9,15 @@ use Rattle.digits.specs.declared.layout.Window.{Window}
 use Rattle.dialling.specs.declared.Sender.{Sender}
 use Rattle.dialling.specs.Sender.{freshSender, windowIn, afterSent, sending}
 use Rattle.dialling.specs.SenderClaims.{senderAfter}
-use Rattle.dialled.specs.Receiver.{freshReceiver}
-use Rattle.replay.specs.Periods.{pay, range, Near, Sublist}
-use Rattle.replay.specs.Claims.{Replays}
-use Rattle.replay.specs.Examples.{picked}
-use Rattle.replay.proofs.Sublists.{Each, each-some, picked-some, picked-map, Two, just-two}
-use Rattle.replay.proofs.Examples.{one-more-fails}
+use Rattle.dialled.specs.Receiver.{freshReceiver, farthest}
+use Rattle.replay.specs.Periods.{pay, range, freshOf, Near, Sublist, AllIn}
+use Rattle.replay.specs.Claims.{recordOf, Arriving, Replays}
+use Rattle.replay.specs.Examples.{picked, chosen}
+use Rattle.replay.proofs.Sublists.{Each, each-in, picked-some, picked-map, chosen-in, chosen-map, Two, just-two}
+use Rattle.replay.proofs.Examples.{one-more-fails, one-more-behind-fails}
 use Rattle.carried.specs.Emissions.{Emission}
-use Rattle.carried.specs.Digits.{emissions, periodOf, came, payloadsOf, arrivals, marks}
-use Rattle.carried.specs.DigitRuns.{tone, pause, wrong, call, sent, first, second, amid, far, Runs, Sharp}
+use Rattle.carried.specs.Digits.{emissions, periodOf, Heard, came, payloadsOf, arrivals, answers, marksIn, mostBehind}
+use Rattle.carried.specs.DigitRuns.{tone, pause, wrong, call, sent, first, second, firstInOrder, secondInOrder, amid, ahead, behind, Runs, Sharp}
 use Rattle.carried.proofs.DigitRule.{digitReceiver, brings, by-rule, record-is}
 use Rattle.carried.proofs.DigitSender.{Brings, all-bring}
 
@@ -34,65 +34,117 @@ numbers : map numberOf sent ≡ range 0 300
 unfolding sending
 numbers = tones (senderAfter freshSender (wrong ∷ pause ∷ pause ∷ [])) 0 300
 
-picked-numbers : (gs : List ℕ) → map numberOf (picked gs sent) ≡ picked gs (range 0 300)
-picked-numbers gs = picked-map numberOf gs sent ∙ ap (picked gs) numbers
+chosen-numbers : (ns : List ℕ) → map numberOf (chosen ns sent) ≡ chosen ns (range 0 300)
+chosen-numbers ns = chosen-map numberOf ns sent ∙ ap (chosen ns) numbers
 
 -- the payloads amid the voice
 pub payloads-amid : (ps : List Emission) → payloadsOf (amid ps) ≡ ps
 payloads-amid [] = refl
 payloads-amid (p ∷ ps) = ap {B = List Emission} (λ qs. p ∷ qs) (payloads-amid ps)
 
-second-numbers : map numberOf second ≡ 0 ∷ 1 ∷ 256 ∷ 257 ∷ 260 ∷ 299 ∷ []
-second-numbers = picked-numbers (0 ∷ 0 ∷ 254 ∷ 0 ∷ 2 ∷ 38 ∷ [])
+first-numbers : map numberOf first ≡ 1 ∷ 128 ∷ 0 ∷ 255 ∷ 256 ∷ 255 ∷ []
+first-numbers = chosen-numbers (1 ∷ 128 ∷ 0 ∷ 255 ∷ 256 ∷ 255 ∷ [])
 
-first-numbers : map numberOf first ≡ 1 ∷ 256 ∷ 260 ∷ []
-first-numbers = picked-map numberOf (1 ∷ 0 ∷ 1 ∷ []) second ∙ ap (picked (1 ∷ 0 ∷ 1 ∷ [])) second-numbers
+second-numbers : map numberOf second ≡ 0 ∷ 1 ∷ 128 ∷ 0 ∷ 255 ∷ 127 ∷ 255 ∷ 256 ∷ 254 ∷ 299 ∷ []
+second-numbers = chosen-numbers (0 ∷ 1 ∷ 128 ∷ 0 ∷ 255 ∷ 127 ∷ 255 ∷ 256 ∷ 254 ∷ 299 ∷ [])
 
-near-by : (gap : ℕ) (ps : List Emission) (ns : List ℕ) → map numberOf ps ≡ ns → Near gap ns → Near gap (arrivals (amid ps))
-near-by gap ps ns is near = subst (Near gap) (sym (ap (map numberOf) (payloads-amid ps) ∙ is)) near
+second-in-order : map numberOf secondInOrder ≡ 0 ∷ 1 ∷ 128 ∷ 255 ∷ 299 ∷ []
+second-in-order = picked-map numberOf (0 ∷ 0 ∷ 126 ∷ 126 ∷ 43 ∷ []) sent ∙ ap (picked (0 ∷ 0 ∷ 126 ∷ 126 ∷ 43 ∷ [])) numbers
+
+first-in-order : map numberOf firstInOrder ≡ 1 ∷ 128 ∷ 255 ∷ []
+first-in-order = picked-map numberOf (1 ∷ 0 ∷ 0 ∷ []) secondInOrder ∙ ap (picked (1 ∷ 0 ∷ 0 ∷ [])) second-in-order
+
+-- the arrivals amid the voice
+amid-is : (ps : List Emission) (ns : List ℕ) → map numberOf ps ≡ ns → arrivals (amid ps) ≡ ns
+amid-is ps ns is = ap (map numberOf) (payloads-amid ps) ∙ is
+
+some-amid : (ns : List ℕ) → AllIn (payloadsOf (amid (chosen ns sent))) sent
+some-amid ns = subst (λ (ps : List Emission). AllIn ps sent) (sym (payloads-amid (chosen ns sent))) (chosen-in ns sent)
 
 pub runs : Runs
 runs =
+    let first-is = amid-is first (1 ∷ 128 ∷ 0 ∷ 255 ∷ 256 ∷ 255 ∷ []) first-numbers in
+    let second-is = amid-is second (0 ∷ 1 ∷ 128 ∷ 0 ∷ 255 ∷ 127 ∷ 255 ∷ 256 ∷ 254 ∷ 299 ∷ []) second-numbers in
+    let first-ordered = amid-is firstInOrder (1 ∷ 128 ∷ 255 ∷ []) first-in-order in
+    let second-ordered = amid-is secondInOrder (0 ∷ 1 ∷ 128 ∷ 255 ∷ 299 ∷ []) second-in-order in
     record {
       given =
           record {
-            some = subst (λ (ps : List Emission). Sublist ps sent) (sym (payloads-amid second)) (picked-some (0 ∷ 0 ∷ 254 ∷ 0 ∷ 2 ∷ 38 ∷ []) sent);
-            more =
-                subst (λ (ps : List Emission). Sublist ps (payloadsOf (amid second))) (sym (payloads-amid first))
-                (subst (Sublist first) (sym (payloads-amid second)) (picked-some (1 ∷ 0 ∷ 1 ∷ []) second));
-            near = near-by _ first (1 ∷ 256 ∷ 260 ∷ []) first-numbers (omega arith, (omega arith, tt));
-            near2 = near-by _ second (0 ∷ 1 ∷ 256 ∷ 257 ∷ 260 ∷ 299 ∷ []) second-numbers (omega arith, (omega arith, (omega arith, (omega arith, (omega arith, tt)))));
+            some = some-amid (1 ∷ 128 ∷ 0 ∷ 255 ∷ 256 ∷ 255 ∷ []);
+            some2 = some-amid (0 ∷ 1 ∷ 128 ∷ 0 ∷ 255 ∷ 127 ∷ 255 ∷ 256 ∷ 254 ∷ 299 ∷ []);
+            arriving =
+                subst (Arriving farthest mostBehind) (sym first-is)
+                (record {
+                  near = (omega arith, (omega arith, (omega arith, tt)));
+                  behind = (omega arith, (omega arith, (omega arith, (omega arith, (omega arith, tt)))));
+                });
+            arriving2 =
+                subst (Arriving farthest mostBehind) (sym second-is)
+                (record {
+                  near = (omega arith, (omega arith, (omega arith, (omega arith, (omega arith, (omega arith, tt))))));
+                  behind = (omega arith, (omega arith, (omega arith, (omega arith, (omega arith, (omega arith, (omega arith, (omega arith, (omega arith, tt)))))))));
+                });
+            more = rw (first-is, second-is) (refl, (refl, (refl, (refl, tt))));
           };
-      first-is = ap (map numberOf) (payloads-amid first) ∙ first-numbers;
-      second-is = ap (map numberOf) (payloads-amid second) ∙ second-numbers;
+      first-is = first-is;
+      second-is = second-is;
+      in-order =
+          record {
+            some = subst (λ (ps : List Emission). Sublist ps sent) (sym (payloads-amid secondInOrder)) (picked-some (0 ∷ 0 ∷ 126 ∷ 126 ∷ 43 ∷ []) sent);
+            more =
+                subst (λ (ps : List Emission). Sublist ps (payloadsOf (amid secondInOrder))) (sym (payloads-amid firstInOrder))
+                (subst (Sublist firstInOrder) (sym (payloads-amid secondInOrder)) (picked-some (1 ∷ 0 ∷ 0 ∷ []) secondInOrder));
+            near = subst (Near farthest) (sym first-ordered) (omega arith, (omega arith, tt));
+            near2 = subst (Near farthest) (sym second-ordered) (omega arith, (omega arith, (omega arith, (omega arith, tt))));
+          };
+      first-in-order = first-ordered;
+      second-in-order = second-ordered;
     }
 
--- two payloads of the sender, 256 apart
 payloads-of : (ps : List Emission) → payloadsOf (map came ps) ≡ ps
 payloads-of [] = refl
 payloads-of (p ∷ ps) = ap {B = List Emission} (λ qs. p ∷ qs) (payloads-of ps)
 
-apart-fails : (S : ℕ → Window) (ps : List Emission) → Each (Brings S) ps → Two numberOf ps 0 256 → Replays S (0 ∷ 256 ∷ []) (marks freshReceiver (map came ps)) → ⊥
-apart-fails S ps each t replays =
+-- two payloads of the sender, with these numbers
+two-fail : (S : ℕ → Window) (ps : List Emission) (a b : ℕ) (fresh : List ℕ)
+    → ((e e2 : Heard) → brings e ≡ some (pay 8 S a) → brings e2 ≡ some (pay 8 S b) → Replays S fresh (recordOf digitReceiver freshReceiver (e ∷ e2 ∷ [])) → ⊥)
+    → Each (Brings S) ps
+    → Two numberOf ps a b
+    → Replays S fresh (marksIn (answers freshReceiver (map came ps)))
+    → ⊥
+two-fail S ps a b fresh fail each t replays =
     let p = t .one in
     let q = t .two in
     let both : Each (Brings S) (p ∷ q ∷ []) = subst (Each (Brings S)) (t .are) each in
-    one-more-fails Window 8 digitReceiver brings S freshReceiver (came p) (came q) 0 by-rule refl
-    (both .0 ∙ ap (λ (n : ℕ). some (pay 8 S n)) (t .is-a))
-    (both .1 .0 ∙ ap (λ (n : ℕ). some (pay 8 S n)) (t .is-b))
-    (subst (Replays S (0 ∷ 256 ∷ []))
-    (ap (λ (xs : List Emission). marks freshReceiver (map came xs)) (t .are) ∙ sym (record-is freshReceiver (came p ∷ came q ∷ [])))
+    fail (came p) (came q) (both .0 ∙ ap (λ (n : ℕ). some (pay 8 S n)) (t .is-a)) (both .1 .0 ∙ ap (λ (n : ℕ). some (pay 8 S n)) (t .is-b))
+    (subst (Replays S fresh)
+    (ap (λ (xs : List Emission). marksIn (answers freshReceiver (map came xs))) (t .are) ∙ sym (record-is freshReceiver (came p ∷ came q ∷ [])))
     replays)
 
 pub sharp : Sharp
 sharp =
-    let some = picked-some (0 ∷ 255 ∷ []) sent in
-    let is : arrivals (map came far) ≡ 0 ∷ 256 ∷ [] = ap (map numberOf) (payloads-of far) ∙ picked-numbers (0 ∷ 255 ∷ []) in
+    let S = periodOf call in
+    let far = chosen-in (0 ∷ 128 ∷ []) sent in
+    let back = chosen-in (129 ∷ 0 ∷ []) sent in
+    let far-is : arrivals (map came ahead) ≡ 0 ∷ 128 ∷ [] = ap (map numberOf) (payloads-of ahead) ∙ chosen-numbers (0 ∷ 128 ∷ []) in
+    let back-is : arrivals (map came behind) ≡ 129 ∷ 0 ∷ [] = ap (map numberOf) (payloads-of behind) ∙ chosen-numbers (129 ∷ 0 ∷ []) in
     record {
-      some = some;
-      far-is = is;
-      fails =
+      some = far;
+      ahead-is = far-is;
+      ahead-fails =
           λ replays.
-          apart-fails (periodOf call) far (each-some (Brings (periodOf call)) far sent some (all-bring call)) (just-two numberOf far 0 256 (picked-numbers (0 ∷ 255 ∷ [])))
-          (subst (λ (ns : List ℕ). Replays (periodOf call) ns (marks freshReceiver (map came far))) is replays);
+          two-fail S ahead 0 128 (0 ∷ 128 ∷ [])
+          (λ e e2. one-more-fails Window 8 farthest digitReceiver brings S freshReceiver e e2 0 by-rule (omega arith) (omega arith) refl)
+          (each-in (Brings S) ahead sent far (all-bring call))
+          (just-two numberOf ahead 0 128 (chosen-numbers (0 ∷ 128 ∷ [])))
+          (subst (λ (ns : List ℕ). Replays S (freshOf ns) (marksIn (answers freshReceiver (map came ahead)))) far-is replays);
+      some-behind = back;
+      behind-is = back-is;
+      behind-fails =
+          λ replays.
+          two-fail S behind 129 0 (129 ∷ [])
+          (λ e e2. one-more-behind-fails Window 8 farthest digitReceiver brings S freshReceiver e e2 0 by-rule (omega arith) (omega arith) refl)
+          (each-in (Brings S) behind sent back (all-bring call))
+          (just-two numberOf behind 129 0 (chosen-numbers (129 ∷ 0 ∷ [])))
+          (subst (λ (ns : List ℕ). Replays S (freshOf ns) (marksIn (answers freshReceiver (map came behind)))) back-is replays);
     }

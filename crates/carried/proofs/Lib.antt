@@ -7,7 +7,6 @@ pub mod SignallingRule
 pub mod SignallingSender
 pub mod Signalling
 pub mod SignallingRuns
-pub mod Bounds
 pub mod Trunks
 pub mod Tied
 pub mod Calls

@@ -16,15 +16,15 @@ use Rattle.seizing.specs.declared.Sent.{Sent}
 use Rattle.signalling.specs.Layout.{allAllowed}
 use Rattle.seizing.specs.Sender.{started, allEqual, isQuiet, runAfter, afterSent, afterUnsent, goingOut, nothingDue}
 use Rattle.seizing.specs.Sender as defined
-use Rattle.seized.specs.Receiver.{freshReceiver}
-use Rattle.replay.specs.Periods.{pay, range, Near, Among}
-use Rattle.replay.specs.Claims.{Replays}
-use Rattle.replay.specs.Examples.{picked}
-use Rattle.replay.proofs.Sublists.{Each, each-some, picked-some, picked-map, Two, just-two}
-use Rattle.replay.proofs.Examples.{one-more-fails}
+use Rattle.seized.specs.Receiver.{freshReceiver, farthest}
+use Rattle.replay.specs.Periods.{pay, range, freshOf, Near}
+use Rattle.replay.specs.Claims.{recordOf, Arriving, Replays}
+use Rattle.replay.specs.Examples.{picked, chosen}
+use Rattle.replay.proofs.Sublists.{Each, each-in, picked-some, picked-map, chosen-in, chosen-map, Two, just-two}
+use Rattle.replay.proofs.Examples.{one-more-fails, one-more-behind-fails}
 use Rattle.carried.specs.Emissions.{Emission}
-use Rattle.carried.specs.Signalling.{emitted, numberAfter, emissions, periodOf, arrivals, marks, TenEach}
-use Rattle.carried.specs.SignallingRuns.{still, ring, pulse, line, sent, first, second, far, Runs, Sharp}
+use Rattle.carried.specs.Signalling.{emitted, numberAfter, emissions, periodOf, arrivals, answers, marksIn, mostBehind, TenEach}
+use Rattle.carried.specs.SignallingRuns.{still, ring, pulse, line, sent, first, second, firstInOrder, secondInOrder, ahead, behind, Runs, Sharp}
 use Rattle.carried.proofs.SignallingRule.{signallingReceiver, brings, by-rule, record-is}
 use Rattle.carried.proofs.SignallingSender.{Brings, all-bring, is-loud, is-early, is-resting, is-repeat, raised}
 
@@ -136,11 +136,8 @@ all-numbers =
 picked-numbers : (gs : List ℕ) → arrivals (picked gs sent) ≡ picked gs numbers
 picked-numbers gs = picked-map (λ (p : Emission). p .number) gs sent ∙ ap (picked gs) all-numbers
 
-second-numbers : arrivals second ≡ 0 ∷ 24 ∷ 151 ∷ 153 ∷ []
-second-numbers = picked-numbers (0 ∷ 23 ∷ 127 ∷ 1 ∷ [])
-
-first-numbers : arrivals first ≡ 24 ∷ 151 ∷ []
-first-numbers = picked-numbers (25 ∷ 126 ∷ [])
+chosen-numbers : (ns : List ℕ) → arrivals (chosen ns sent) ≡ chosen ns numbers
+chosen-numbers ns = chosen-map (λ (p : Emission). p .number) ns sent ∙ ap (chosen ns) all-numbers
 
 abbrev numberOf : Emission → ℕ
 numberOf p = p .number
@@ -158,42 +155,83 @@ ten-each = ten-of 274 still (ring ∷ replicate 160 pulse) refl (refl, ten-pulse
 
 pub runs : Runs
 runs =
+    let first-is : arrivals first ≡ 24 ∷ 87 ∷ 23 ∷ 150 ∷ [] = chosen-numbers (25 ∷ 88 ∷ 23 ∷ 151 ∷ []) in
+    let second-is : arrivals second ≡ 0 ∷ 24 ∷ 24 ∷ 87 ∷ 23 ∷ 150 ∷ 86 ∷ 153 ∷ [] = chosen-numbers (0 ∷ 24 ∷ 25 ∷ 88 ∷ 23 ∷ 151 ∷ 87 ∷ 154 ∷ []) in
+    let first-ordered : arrivals firstInOrder ≡ 24 ∷ 87 ∷ [] = picked-numbers (25 ∷ 62 ∷ []) in
+    let second-ordered : arrivals secondInOrder ≡ 0 ∷ 24 ∷ 87 ∷ 150 ∷ [] = picked-numbers (0 ∷ 23 ∷ 63 ∷ 62 ∷ []) in
     record {
       given =
           record {
             begins = refl;
             ten = ten-each;
-            some = picked-some (25 ∷ 126 ∷ []) sent;
-            some2 = picked-some (0 ∷ 23 ∷ 127 ∷ 1 ∷ []) sent;
-            more = subst (Among (arrivals first)) (sym second-numbers) (subst (λ (ns : List ℕ). Among ns (0 ∷ 24 ∷ 151 ∷ 153 ∷ [])) (sym first-numbers) (refl, (refl, tt)));
-            near = subst (Near 127) (sym first-numbers) (omega arith, tt);
-            near2 = subst (Near 127) (sym second-numbers) (omega arith, (omega arith, (omega arith, tt)));
+            some = chosen-in (25 ∷ 88 ∷ 23 ∷ 151 ∷ []) sent;
+            some2 = chosen-in (0 ∷ 24 ∷ 25 ∷ 88 ∷ 23 ∷ 151 ∷ 87 ∷ 154 ∷ []) sent;
+            arriving =
+                subst (Arriving farthest mostBehind) (sym first-is)
+                (record { near = (omega arith, (omega arith, tt)); behind = (omega arith, (omega arith, (omega arith, tt))) });
+            arriving2 =
+                subst (Arriving farthest mostBehind) (sym second-is)
+                (record {
+                  near = (omega arith, (omega arith, (omega arith, (omega arith, (omega arith, tt)))));
+                  behind = (omega arith, (omega arith, (omega arith, (omega arith, (omega arith, (omega arith, (omega arith, tt)))))));
+                });
+            more = rw (first-is, second-is) (refl, (refl, (refl, tt)));
           };
-      first-is = first-numbers;
-      second-is = second-numbers;
+      first-is = first-is;
+      second-is = second-is;
+      in-order =
+          record {
+            begins = refl;
+            ten = ten-each;
+            some = picked-some (25 ∷ 62 ∷ []) sent;
+            some2 = picked-some (0 ∷ 23 ∷ 63 ∷ 62 ∷ []) sent;
+            more = rw (first-ordered, second-ordered) (refl, (refl, tt));
+            near = subst (Near farthest) (sym first-ordered) (omega arith, tt);
+            near2 = subst (Near farthest) (sym second-ordered) (omega arith, (omega arith, (omega arith, tt)));
+          };
+      first-in-order = first-ordered;
+      second-in-order = second-ordered;
     }
 
--- two payloads of the sender, 128 apart
-apart-fails : (S : ℕ → List ℕ) (ps : List Emission) → Each (Brings S) ps → Two numberOf ps 0 128 → Replays S (0 ∷ 128 ∷ []) (marks freshReceiver ps) → ⊥
-apart-fails S ps each t replays =
+-- two payloads of the sender, with these numbers
+two-fail : (S : ℕ → List ℕ) (ps : List Emission) (a b : ℕ) (fresh : List ℕ)
+    → ((p q : Emission) → brings p ≡ some (pay 7 S a) → brings q ≡ some (pay 7 S b) → Replays S fresh (recordOf signallingReceiver freshReceiver (p ∷ q ∷ [])) → ⊥)
+    → Each (Brings S) ps
+    → Two numberOf ps a b
+    → Replays S fresh (marksIn (answers freshReceiver ps))
+    → ⊥
+two-fail S ps a b fresh fail each t replays =
     let p = t .one in
     let q = t .two in
     let both : Each (Brings S) (p ∷ q ∷ []) = subst (Each (Brings S)) (t .are) each in
-    one-more-fails (List ℕ) 7 signallingReceiver brings S freshReceiver p q 0 by-rule refl
-    (both .0 ∙ ap (λ (n : ℕ). some (pay 7 S n)) (t .is-a))
-    (both .1 .0 ∙ ap (λ (n : ℕ). some (pay 7 S n)) (t .is-b))
-    (subst (Replays S (0 ∷ 128 ∷ [])) (ap (marks freshReceiver) (t .are) ∙ sym (record-is freshReceiver (p ∷ q ∷ []))) replays)
+    fail p q (both .0 ∙ ap (λ (n : ℕ). some (pay 7 S n)) (t .is-a)) (both .1 .0 ∙ ap (λ (n : ℕ). some (pay 7 S n)) (t .is-b))
+    (subst (Replays S fresh) (ap (λ (xs : List Emission). marksIn (answers freshReceiver xs)) (t .are) ∙ sym (record-is freshReceiver (p ∷ q ∷ []))) replays)
 
 pub sharp : Sharp
 sharp =
-    let some = picked-some (0 ∷ 128 ∷ []) sent in
-    let is : arrivals far ≡ 0 ∷ 128 ∷ [] = picked-numbers (0 ∷ 128 ∷ []) in
     let S = periodOf 0 line in
+    let all = all-bring 0 line refl ten-each in
+    let far = chosen-in (0 ∷ 65 ∷ []) sent in
+    let back = chosen-in (66 ∷ 0 ∷ []) sent in
+    let far-is : arrivals ahead ≡ 0 ∷ 64 ∷ [] = chosen-numbers (0 ∷ 65 ∷ []) in
+    let back-is : arrivals behind ≡ 65 ∷ 0 ∷ [] = chosen-numbers (66 ∷ 0 ∷ []) in
     record {
-      some = some;
-      far-is = is;
-      fails =
+      some = far;
+      ahead-is = far-is;
+      ahead-fails =
           λ replays.
-          apart-fails S far (each-some (Brings S) far sent some (all-bring 0 line refl ten-each)) (just-two numberOf far 0 128 is)
-          (subst (λ (ns : List ℕ). Replays S ns (marks freshReceiver far)) is replays);
+          two-fail S ahead 0 64 (0 ∷ 64 ∷ [])
+          (λ p q. one-more-fails (List ℕ) 7 farthest signallingReceiver brings S freshReceiver p q 0 by-rule (omega arith) (omega arith) refl)
+          (each-in (Brings S) ahead sent far all)
+          (just-two numberOf ahead 0 64 far-is)
+          (subst (λ (ns : List ℕ). Replays S (freshOf ns) (marksIn (answers freshReceiver ahead))) far-is replays);
+      some-behind = back;
+      behind-is = back-is;
+      behind-fails =
+          λ replays.
+          two-fail S behind 65 0 (65 ∷ [])
+          (λ p q. one-more-behind-fails (List ℕ) 7 farthest signallingReceiver brings S freshReceiver p q 0 by-rule (omega arith) (omega arith) refl)
+          (each-in (Brings S) behind sent back all)
+          (just-two numberOf behind 65 0 back-is)
+          (subst (λ (ns : List ℕ). Replays S (freshOf ns) (marksIn (answers freshReceiver behind))) back-is replays);
     }

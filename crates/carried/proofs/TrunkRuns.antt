@@ -101,10 +101,11 @@ runs =
       digits =
           record {
             carries = refl;
-            some = rw (← heard-second) (given .some);
+            some = rw (← heard-first) (given .some);
+            some2 = rw (← heard-second) (given .some2);
+            arriving = rw (← heard-first) (given .arriving);
+            arriving2 = rw (← heard-second) (given .arriving2);
             more = rw (← heard-first, ← heard-second) (given .more);
-            near = rw (← heard-first) (given .near);
-            near2 = rw (← heard-second) (given .near2);
             others = digits-each digit-runs.first;
             others2 = digits-each digit-runs.second;
           };
@@ -115,9 +116,9 @@ runs =
             ten = given2 .ten;
             some = rw (of-signalling signalling-runs.first) (given2 .some);
             some2 = rw (of-signalling signalling-runs.second) (given2 .some2);
+            arriving = rw (of-signalling signalling-runs.first) (given2 .arriving);
+            arriving2 = rw (of-signalling signalling-runs.second) (given2 .arriving2);
             more = rw (of-signalling signalling-runs.first, of-signalling signalling-runs.second) (given2 .more);
-            near = rw (of-signalling signalling-runs.first) (given2 .near);
-            near2 = rw (of-signalling signalling-runs.second) (given2 .near2);
             others = signalling-each signalling-runs.first;
             others2 = signalling-each signalling-runs.second;
           };

@@ -1,4 +1,5 @@
--- Runs that meet what DigitsCarried asks, and one that shows the bound of 255 to be sharp. Proved in proofs/DigitRuns.antt.
+-- Runs that meet what DigitsCarried and DigitsInOrder ask, and two that show both bounds to be sharp. Proved in
+-- proofs/DigitRuns.antt.
 use mathlib.Core.Path.{_≡_}
 use mathlib.Core.List.{List, [], _∷_, map}
 use mathlib.Core.Bool.{true, false}
@@ -7,11 +8,11 @@ use lib.IntN.{negsuc}
 use Rattle.dialling.specs.declared.Entry.{Entry}
 use Rattle.dialling.specs.Sender.{freshSender}
 use Rattle.dialled.specs.Receiver.{freshReceiver}
-use Rattle.replay.specs.Periods.{Sublist}
+use Rattle.replay.specs.Periods.{freshOf, AllIn}
 use Rattle.replay.specs.Claims.{Replays}
-use Rattle.replay.specs.Examples.{picked}
+use Rattle.replay.specs.Examples.{picked, chosen}
 use Rattle.carried.specs.Emissions.{Emission}
-use Rattle.carried.specs.Digits.{emissions, periodOf, Heard, came, voice, arrivals, marks, Given}
+use Rattle.carried.specs.Digits.{emissions, periodOf, Heard, came, voice, arrivals, answers, marksIn, Given, InOrder}
 
 -- entries at -10 dBm0
 abbrev pub tone : Entry
@@ -31,12 +32,20 @@ call = wrong ∷ pause ∷ pause ∷ replicate 300 tone
 abbrev pub sent : List Emission
 sent = emissions freshSender 0 call
 
--- Both receivers have a gap of 255 periods and go round at 256.
-abbrev pub second : List Emission
-second = picked (0 ∷ 0 ∷ 254 ∷ 0 ∷ 2 ∷ 38 ∷ []) sent
-
+-- Both receivers have gaps of 127 periods, get a payload 128 periods behind the last fresh one, and go round at 256; one payload
+-- comes twice.
 abbrev pub first : List Emission
-first = picked (1 ∷ 0 ∷ 1 ∷ []) second
+first = chosen (1 ∷ 128 ∷ 0 ∷ 255 ∷ 256 ∷ 255 ∷ []) sent
+
+abbrev pub second : List Emission
+second = chosen (0 ∷ 1 ∷ 128 ∷ 0 ∷ 255 ∷ 127 ∷ 255 ∷ 256 ∷ 254 ∷ 299 ∷ []) sent
+
+-- in order, some of a list: so many are left out, then one is taken
+abbrev pub secondInOrder : List Emission
+secondInOrder = picked (0 ∷ 0 ∷ 126 ∷ 126 ∷ 43 ∷ []) sent
+
+abbrev pub firstInOrder : List Emission
+firstInOrder = picked (1 ∷ 0 ∷ 0 ∷ []) secondInOrder
 
 -- with a voice payload before each
 abbrev pub amid : List Emission → List Heard
@@ -45,14 +54,27 @@ amid (p ∷ ps) = voice ∷ came p ∷ amid ps
 
 pub record Runs : Type 0 where
   pub given : Given call (amid first) (amid second)
-  pub first-is : arrivals (amid first) ≡ 1 ∷ 256 ∷ 260 ∷ []
-  pub second-is : arrivals (amid second) ≡ 0 ∷ 1 ∷ 256 ∷ 257 ∷ 260 ∷ 299 ∷ []
+  pub first-is : arrivals (amid first) ≡ 1 ∷ 128 ∷ 0 ∷ 255 ∷ 256 ∷ 255 ∷ []
+  pub second-is : arrivals (amid second) ≡ 0 ∷ 1 ∷ 128 ∷ 0 ∷ 255 ∷ 127 ∷ 255 ∷ 256 ∷ 254 ∷ 299 ∷ []
+  pub in-order : InOrder call (amid firstInOrder) (amid secondInOrder)
+  pub first-in-order : arrivals (amid firstInOrder) ≡ 1 ∷ 128 ∷ 255 ∷ []
+  pub second-in-order : arrivals (amid secondInOrder) ≡ 0 ∷ 1 ∷ 128 ∷ 255 ∷ 299 ∷ []
 
--- Two arrivals 256 apart: all is given but for the gap, and the record is not what is demanded.
-abbrev pub far : List Emission
-far = picked (0 ∷ 255 ∷ []) sent
+-- Two payloads, 128 apart, and 129 apart the other way round: all is given but for the one bound, and the record is not what is
+-- demanded.
+abbrev pub ahead : List Emission
+ahead = chosen (0 ∷ 128 ∷ []) sent
+
+abbrev pub behind : List Emission
+behind = chosen (129 ∷ 0 ∷ []) sent
+
+abbrev pub Demanded : List Emission → Type 0
+Demanded ps = Replays (periodOf call) (freshOf (arrivals (map came ps))) (marksIn (answers freshReceiver (map came ps)))
 
 pub record Sharp : Type 0 where
-  pub some : Sublist far sent
-  pub far-is : arrivals (map came far) ≡ 0 ∷ 256 ∷ []
-  pub fails : Replays (periodOf call) (arrivals (map came far)) (marks freshReceiver (map came far)) → ⊥
+  pub some : AllIn ahead sent
+  pub ahead-is : arrivals (map came ahead) ≡ 0 ∷ 128 ∷ []
+  pub ahead-fails : Demanded ahead → ⊥
+  pub some-behind : AllIn behind sent
+  pub behind-is : arrivals (map came behind) ≡ 129 ∷ 0 ∷ []
+  pub behind-fails : Demanded behind → ⊥

@@ -1,5 +1,5 @@
--- Demand 3 for digits: what two fresh receivers have in their records when payloads of one sender arrive, through the octets
--- of the payloads. Proved in proofs/Digits.antt, by the replay theorem.
+-- Demand 3 for digits, as document 02, wish 3, reads it: what two fresh receivers answer and have in their records when payloads of
+-- one sender arrive, through the octets of the payloads. Proved in proofs/Digits.antt, by the replay theorem.
 --
 -- It holds of the code by the contracts, as Tied.antt says: `sending` is what `dialling::send` answers, `digitsMade` is
 -- what `digits::layout::put_digits` writes, `received` is what `dialled::receive` answers, `voiceHeard` is what
@@ -18,8 +18,8 @@ use Rattle.dialled.specs.declared.Received.{Received}
 use Rattle.digits.specs.Layout.{offWindow, digitsMade}
 use Rattle.dialling.specs.Sender.{freshSender, windowIn, sending}
 use Rattle.dialled.specs.Receiver.{freshReceiver, farthest, received, voiceHeard}
-use Rattle.replay.specs.Periods.{Mark, filled, carried, Near, Sublist}
-use Rattle.replay.specs.Claims.{BothReplay}
+use Rattle.replay.specs.Periods.{Mark, filled, carried, freshOf, Near, Among, Sublist, AllIn}
+use Rattle.replay.specs.Claims.{Arriving, BothReplay, BothTake}
 use Rattle.carried.specs.Emissions.{Emission}
 
 -- The sender's run over its entries, where n periods were sent before. An entry that is refused is no period; "Unsent periods
@@ -76,36 +76,58 @@ payloadsOf (voice ∷ hs) = payloadsOf hs
 abbrev pub arrivals : List Heard → List ℕ
 arrivals hs = map (λ (p : Emission). p .number) (payloadsOf hs)
 
--- Its record: each answer appends its fills, marked filled, and then its carried periods, marked carried.
+-- What it answers to them, in turn; the refusal numbers of its answers; and its record: each answer appends its fills, marked
+-- filled, and then its carried periods, marked carried.
+abbrev pub answers : Receiver → List Heard → List Received
+answers r [] = []
+answers r (came p ∷ hs) = received r (p .octets) ∷ answers (received r (p .octets) .receiver) hs
+answers r (voice ∷ hs) = answers (voiceHeard r) hs
+
+abbrev pub numbersIn : List Received → List ℕ
+numbersIn xs = map (λ (a : Received). a .number) xs
+
 abbrev pub marksOf : Received → List (Mark Window)
 marksOf a = replicate (a .fills) (filled (a .fill)) ++ map carried (take (a .carried) (a .periods))
 
-abbrev pub answered : Receiver → Heard → List (Mark Window)
-answered r (came p) = marksOf (received r (p .octets))
-answered r voice = []
+abbrev pub marksIn : List Received → List (Mark Window)
+marksIn [] = []
+marksIn (a ∷ xs) = marksOf a ++ marksIn xs
 
-abbrev pub receiverNext : Receiver → Heard → Receiver
-receiverNext r (came p) = received r (p .octets) .receiver
-receiverNext r voice = voiceHeard r
-
-abbrev pub marks : Receiver → List Heard → List (Mark Window)
-marks r [] = []
-marks r (h ∷ hs) = answered r h ++ marks (receiverNext r h) hs
+-- "Older ones mixed in, .. 1 to 128 periods behind the last fresh one"
+abbrev pub mostBehind : ℕ
+mostBehind = 128
 
 -- What is given.
 pub record Given (entries : List Entry) (first second : List Heard) : Type 0 where
-  -- "Each gets some of its payloads, undamaged and in order"
-  pub some : Sublist (payloadsOf second) (emissions freshSender 0 entries)
-  -- "the second at least all that the first gets"
-  pub more : Sublist (payloadsOf first) (payloadsOf second)
-  -- "No two successive arrivals at either are more than .. 255" periods apart: the farthest step that is replayed
-  pub near : Near farthest (arrivals first)
-  pub near2 : Near farthest (arrivals second)
+  -- "Each gets some of its payloads, undamaged": in any order, and any number of times each
+  pub some : AllIn (payloadsOf first) (emissions freshSender 0 entries)
+  pub some2 : AllIn (payloadsOf second) (emissions freshSender 0 entries)
+  -- "successive fresh arrivals at most .. 127 periods apart", the farthest step that is replayed; and how far the others are behind
+  pub arriving : Arriving farthest mostBehind (arrivals first)
+  pub arriving2 : Arriving farthest mostBehind (arrivals second)
+  -- "the second receiver's fresh ones include all of the first's"
+  pub more : Among (freshOf (arrivals first)) (freshOf (arrivals second))
 
--- Then each record replays the sender's periods, and the second keeps all that the first marks carried (`Replays` and `Keeps`
--- of replay/specs/Claims.antt).
+-- Then each record replays the sender's periods by the fresh ones, the second keeps all that the first marks carried, and each
+-- receiver answers 0 to exactly the fresh ones and 19 to the others (`BothTake` of replay/specs/Claims.antt).
 abbrev pub DigitsCarried : Type 0
 DigitsCarried =
     (entries : List Entry) (first second : List Heard)
     → Given entries first second
-    → BothReplay (periodOf entries) (arrivals first) (marks freshReceiver first) (arrivals second) (marks freshReceiver second)
+    → BothTake (periodOf entries) (arrivals first) (marksIn (answers freshReceiver first)) (numbersIn (answers freshReceiver first)) (arrivals second) (marksIn (answers freshReceiver second)) (numbersIn (answers freshReceiver second))
+
+-- Document 01's words, with the smaller bound: where the payloads come in order, all of them are fresh.
+pub record InOrder (entries : List Entry) (first second : List Heard) : Type 0 where
+  -- "Each gets some of its payloads, undamaged and in order"
+  pub some : Sublist (payloadsOf second) (emissions freshSender 0 entries)
+  -- "the second at least all that the first gets"
+  pub more : Sublist (payloadsOf first) (payloadsOf second)
+  -- "No two successive arrivals at either are more than" so many "periods apart"
+  pub near : Near farthest (arrivals first)
+  pub near2 : Near farthest (arrivals second)
+
+abbrev pub DigitsInOrder : Type 0
+DigitsInOrder =
+    (entries : List Entry) (first second : List Heard)
+    → InOrder entries first second
+    → BothReplay (periodOf entries) (arrivals first) (marksIn (answers freshReceiver first)) (arrivals second) (marksIn (answers freshReceiver second))

@@ -38,12 +38,12 @@ use Rattle.dialled.specs.Receiver as dialled
 use Rattle.seizing.specs.Sender.{started, sent}
 use Rattle.seized.specs.Receiver as seized
 use Rattle.trunk.specs.Trunk.{freshTrunk, taken}
-use Rattle.replay.specs.Periods.{Mark, Near, Among, Sublist}
-use Rattle.replay.specs.Claims.{BothReplay}
+use Rattle.replay.specs.Periods.{Mark, freshOf, Among, AllIn}
+use Rattle.replay.specs.Claims.{Arriving, BothTake}
 use Rattle.carried.specs.Emissions.{Emission}
 use Rattle.carried.specs.Digits as digits
 use Rattle.carried.specs.Signalling as signalling
-use Rattle.carried.specs.Trunks.{Coming, came, other, arrivals, dialledMarks, digitRecord, seizedMarks, signallingRecord, DigitsGiven, SignallingGiven}
+use Rattle.carried.specs.Trunks.{Coming, came, other, arrivals, numberOf, numbersOf, dialledMarks, digitRecord, seizedMarks, signallingRecord, DigitsGiven, SignallingGiven}
 use Rattle.dialling.proofs.fresh.Kinds as digit-sender-kinds
 use Rattle.dialling.proofs.fresh.Reads as digit-sender-reads
 use Rattle.dialling.proofs.send.Kinds as digit-send-kinds
@@ -111,17 +111,17 @@ pub data DigitCallsSent : digit-sender.Sender → ℕ → List digit-entry.Entry
       → DigitCallsSent (x .sender) (digits.numberAfter n (x .answer)) es ps
       → DigitCallsSent s n (e ∷ es) (digits.emittedAs n (x .answer) octets ++ ps)
 
--- A digit receiver: calls of `receive` and `hear_voice`, each handed the receiver that the one before returned.
-pub data DigitsReceived : digit-receiver.Receiver → List digits.Heard → List (Mark Window) → Type 0 where
+-- A digit receiver: calls of `receive` and `hear_voice`, each handed the receiver that the one before returned; and the answers.
+pub data DigitsReceived : digit-receiver.Receiver → List digits.Heard → List digit-received.Received → Type 0 where
   no-more-heard : (r : digit-receiver.Receiver) → DigitsReceived r [] []
-  receives-on : (r : digit-receiver.Receiver) (p : Emission) (hs : List digits.Heard) (x : digit-received.Received) (ms : List (Mark Window))
+  receives-on : (r : digit-receiver.Receiver) (p : Emission) (hs : List digits.Heard) (x : digit-received.Received) (xs : List digit-received.Received)
       → Met 1 digit-receive-kinds.ps digit-receive-kinds.r digit-receive-reads.Post {I = digit-receiver.Receiver × List ℕ} (λ κs a. (a .0, now (a .1 .0))) (λ κs x s. x) (r, p .octets) x
-      → DigitsReceived (x .receiver) hs ms
-      → DigitsReceived r (digits.came p ∷ hs) (digits.marksOf x ++ ms)
-  hears-on : (r after : digit-receiver.Receiver) (hs : List digits.Heard) (ms : List (Mark Window))
+      → DigitsReceived (x .receiver) hs xs
+      → DigitsReceived r (digits.came p ∷ hs) (x ∷ xs)
+  hears-on : (r after : digit-receiver.Receiver) (hs : List digits.Heard) (xs : List digit-received.Received)
       → Met 0 hear-voice-kinds.ps hear-voice-kinds.r hear-voice-reads.Post (λ κs a. a .0) (λ κs x s. x) r after
-      → DigitsReceived after hs ms
-      → DigitsReceived r (digits.voice ∷ hs) ms
+      → DigitsReceived after hs xs
+      → DigitsReceived r (digits.voice ∷ hs) xs
 
 -- The signalling sender and a signalling receiver, in the same way.
 abbrev pub SignallingPut : signalling-layout.Signalling → List ℕ → ℕ → Put → List ℕ → Type 0
@@ -136,12 +136,12 @@ pub data SignallingSent : signalling-sender.Sender → ℕ → List signalling-e
       → SignallingSent (x .sender) (signalling.numberAfter s n x) es ps
       → SignallingSent s n (e ∷ es) (signalling.emittedAs s n x octets ++ ps)
 
-pub data SignallingReceived : signalling-receiver.Receiver → List Emission → List (Mark (List ℕ)) → Type 0 where
+pub data SignallingReceived : signalling-receiver.Receiver → List Emission → List signalling-received.Received → Type 0 where
   no-more-come : (r : signalling-receiver.Receiver) → SignallingReceived r [] []
-  comes-on : (r : signalling-receiver.Receiver) (p : Emission) (ps : List Emission) (x : signalling-received.Received) (ms : List (Mark (List ℕ)))
+  comes-on : (r : signalling-receiver.Receiver) (p : Emission) (ps : List Emission) (x : signalling-received.Received) (xs : List signalling-received.Received)
       → Met 1 signalling-receive-kinds.ps signalling-receive-kinds.r signalling-receive-reads.Post {I = signalling-receiver.Receiver × List ℕ} (λ κs a. (a .0, now (a .1 .0))) (λ κs x s. x) (r, p .octets) x
-      → SignallingReceived (x .receiver) ps ms
-      → SignallingReceived r (p ∷ ps) (signalling.marksOf x ++ ms)
+      → SignallingReceived (x .receiver) ps xs
+      → SignallingReceived r (p ∷ ps) (x ∷ xs)
 
 -- A trunk: calls of `take`, each handed the trunk that the one before returned. The sender's payloads have the type `kind`.
 abbrev pub typeOf : ℕ → Coming → ℕ
@@ -167,17 +167,23 @@ abbrev pub signallingMarks : List Told → List (Mark (List ℕ))
 signallingMarks [] = []
 signallingMarks (x ∷ xs) = seizedMarks (x .seized) ++ signallingMarks xs
 
+abbrev pub numbersTold : List Coming → List Told → List ℕ
+numbersTold [] xs = []
+numbersTold (c ∷ cs) [] = []
+numbersTold (c ∷ cs) (x ∷ xs) = numberOf c x (numbersTold cs xs)
+
 -- What comes of such calls is what demand 3 speaks of.
 pub record CallsAre : Type 0 where
   pub digits-sent : (s : digit-sender.Sender) (n : ℕ) (es : List digit-entry.Entry) (ps : List Emission) → DigitCallsSent s n es ps → ps ≡ digits.emissions s n es
-  pub digits-received : (r : digit-receiver.Receiver) (hs : List digits.Heard) (ms : List (Mark Window)) → DigitsReceived r hs ms → ms ≡ digits.marks r hs
+  pub digits-received : (r : digit-receiver.Receiver) (hs : List digits.Heard) (xs : List digit-received.Received) → DigitsReceived r hs xs → xs ≡ digits.answers r hs
   pub signalling-sent : (s : signalling-sender.Sender) (n : ℕ) (es : List signalling-entry.Entry) (ps : List Emission) → SignallingSent s n es ps → ps ≡ signalling.emissions s n es
-  pub signalling-received : (r : signalling-receiver.Receiver) (ps : List Emission) (ms : List (Mark (List ℕ))) → SignallingReceived r ps ms → ms ≡ signalling.marks r ps
+  pub signalling-received : (r : signalling-receiver.Receiver) (ps : List Emission) (xs : List signalling-received.Received) → SignallingReceived r ps xs → xs ≡ signalling.answers r ps
   pub trunk-digits : (found : Found) (t : Trunk) (cs : List Coming) (xs : List Told) → TrunkTold 1 found t cs xs → digitMarks xs ≡ digitRecord found t cs
   pub trunk-signalling : (found : Found) (t : Trunk) (cs : List Coming) (xs : List Told) → TrunkTold 2 found t cs xs → signallingMarks xs ≡ signallingRecord found t cs
+  pub trunk-numbers : (kind : ℕ) (found : Found) (t : Trunk) (cs : List Coming) (xs : List Told) → TrunkTold kind found t cs xs → numbersTold cs xs ≡ numbersOf kind found t cs
 
 -- So demand 3 holds of calls: a sender and two receivers, each begun with what its `fresh` or `start` returns.
-pub record DigitCalls (entries : List digit-entry.Entry) (first second : List digits.Heard) (marks marks2 : List (Mark Window)) : Type 0 where
+pub record DigitCalls (entries : List digit-entry.Entry) (first second : List digits.Heard) (answers answers2 : List digit-received.Received) : Type 0 where
   pub sender : digit-sender.Sender
   pub receiver : digit-receiver.Receiver
   pub receiver2 : digit-receiver.Receiver
@@ -186,20 +192,21 @@ pub record DigitCalls (entries : List digit-entry.Entry) (first second : List di
   pub receiver-fresh : Met 0 digit-receiver-kinds.ps digit-receiver-kinds.r digit-receiver-reads.Post (λ κs a. tt {0}) (λ κs x s. x) (tt {0}) receiver
   pub receiver2-fresh : Met 0 digit-receiver-kinds.ps digit-receiver-kinds.r digit-receiver-reads.Post (λ κs a. tt {0}) (λ κs x s. x) (tt {0}) receiver2
   pub sends : DigitCallsSent sender 0 entries payloads
-  pub receives : DigitsReceived receiver first marks
-  pub receives2 : DigitsReceived receiver2 second marks2
-  pub some : Sublist (digits.payloadsOf second) payloads
-  pub more : Sublist (digits.payloadsOf first) (digits.payloadsOf second)
-  pub near : Near dialled.farthest (digits.arrivals first)
-  pub near2 : Near dialled.farthest (digits.arrivals second)
+  pub receives : DigitsReceived receiver first answers
+  pub receives2 : DigitsReceived receiver2 second answers2
+  pub some : AllIn (digits.payloadsOf first) payloads
+  pub some2 : AllIn (digits.payloadsOf second) payloads
+  pub arriving : Arriving dialled.farthest digits.mostBehind (digits.arrivals first)
+  pub arriving2 : Arriving dialled.farthest digits.mostBehind (digits.arrivals second)
+  pub more : Among (freshOf (digits.arrivals first)) (freshOf (digits.arrivals second))
 
 abbrev pub DigitCallsCarried : Type 0
 DigitCallsCarried =
-    (entries : List digit-entry.Entry) (first second : List digits.Heard) (marks marks2 : List (Mark Window))
-    → DigitCalls entries first second marks marks2
-    → BothReplay (digits.periodOf entries) (digits.arrivals first) marks (digits.arrivals second) marks2
+    (entries : List digit-entry.Entry) (first second : List digits.Heard) (answers answers2 : List digit-received.Received)
+    → DigitCalls entries first second answers answers2
+    → BothTake (digits.periodOf entries) (digits.arrivals first) (digits.marksIn answers) (digits.numbersIn answers) (digits.arrivals second) (digits.marksIn answers2) (digits.numbersIn answers2)
 
-pub record SignallingCalls (start : ℕ) (entries : List signalling-entry.Entry) (first second : List Emission) (marks marks2 : List (Mark (List ℕ))) : Type 0 where
+pub record SignallingCalls (start : ℕ) (entries : List signalling-entry.Entry) (first second : List Emission) (answers answers2 : List signalling-received.Received) : Type 0 where
   pub begun : signalling-started.Started
   pub receiver : signalling-receiver.Receiver
   pub receiver2 : signalling-receiver.Receiver
@@ -208,21 +215,21 @@ pub record SignallingCalls (start : ℕ) (entries : List signalling-entry.Entry)
   pub receiver-fresh : Met 0 signalling-receiver-kinds.ps signalling-receiver-kinds.r signalling-receiver-reads.Post (λ κs a. tt {0}) (λ κs x s. x) (tt {0}) receiver
   pub receiver2-fresh : Met 0 signalling-receiver-kinds.ps signalling-receiver-kinds.r signalling-receiver-reads.Post (λ κs a. tt {0}) (λ κs x s. x) (tt {0}) receiver2
   pub sends : SignallingSent (begun .sender) 0 entries payloads
-  pub receives : SignallingReceived receiver first marks
-  pub receives2 : SignallingReceived receiver2 second marks2
+  pub receives : SignallingReceived receiver first answers
+  pub receives2 : SignallingReceived receiver2 second answers2
   pub begins : begun .number ≡ sound
   pub ten : signalling.TenEach entries
-  pub some : Sublist first payloads
-  pub some2 : Sublist second payloads
-  pub more : Among (signalling.arrivals first) (signalling.arrivals second)
-  pub near : Near seized.farthest (signalling.arrivals first)
-  pub near2 : Near seized.farthest (signalling.arrivals second)
+  pub some : AllIn first payloads
+  pub some2 : AllIn second payloads
+  pub arriving : Arriving seized.farthest signalling.mostBehind (signalling.arrivals first)
+  pub arriving2 : Arriving seized.farthest signalling.mostBehind (signalling.arrivals second)
+  pub more : Among (freshOf (signalling.arrivals first)) (freshOf (signalling.arrivals second))
 
 abbrev pub SignallingCallsCarried : Type 0
 SignallingCallsCarried =
-    (start : ℕ) (entries : List signalling-entry.Entry) (first second : List Emission) (marks marks2 : List (Mark (List ℕ)))
-    → SignallingCalls start entries first second marks marks2
-    → BothReplay (signalling.periodOf start entries) (signalling.arrivals first) marks (signalling.arrivals second) marks2
+    (start : ℕ) (entries : List signalling-entry.Entry) (first second : List Emission) (answers answers2 : List signalling-received.Received)
+    → SignallingCalls start entries first second answers answers2
+    → BothTake (signalling.periodOf start entries) (signalling.arrivals first) (signalling.marksIn answers) (signalling.numbersIn answers) (signalling.arrivals second) (signalling.marksIn answers2) (signalling.numbersIn answers2)
 
 -- And of two trunks, each begun with what `fresh` returns.
 abbrev pub FreshTrunk : Trunk → Type 0
@@ -236,7 +243,7 @@ TrunkDigitCallsCarried =
     → FreshTrunk t2
     → TrunkTold 1 found t first told
     → TrunkTold 1 found t2 second told2
-    → BothReplay (digits.periodOf entries) (arrivals first) (digitMarks told) (arrivals second) (digitMarks told2)
+    → BothTake (digits.periodOf entries) (arrivals first) (digitMarks told) (numbersTold first told) (arrivals second) (digitMarks told2) (numbersTold second told2)
 
 abbrev pub TrunkSignallingCallsCarried : Type 0
 TrunkSignallingCallsCarried =
@@ -246,4 +253,4 @@ TrunkSignallingCallsCarried =
     → FreshTrunk t2
     → TrunkTold 2 found t first told
     → TrunkTold 2 found t2 second told2
-    → BothReplay (signalling.periodOf start entries) (arrivals first) (signallingMarks told) (arrivals second) (signallingMarks told2)
+    → BothTake (signalling.periodOf start entries) (arrivals first) (signallingMarks told) (numbersTold first told) (arrivals second) (signallingMarks told2) (numbersTold second told2)

@@ -1,5 +1,5 @@
 -- Demand 3 of a trunk: the sender's payloads come to one sub-channel's trunk among others of that sub-channel, of other kinds
--- (voice, silence, fax, ..) or refused, and its record is that of the theorem. Proved in proofs/Trunks.antt; TrunkRuns.antt has
+-- (voice, silence, fax, ..) or refused, and its record and its answers to them are those of the theorem. Proved in proofs/Trunks.antt; TrunkRuns.antt has
 -- runs that meet what is asked.
 --
 -- It holds of the code by the contracts, as Tied.antt says: `taken` is what `trunk::take` answers, and `freshTrunk` what
@@ -27,8 +27,8 @@ use Rattle.trunk.specs.declared.Dialled.{Dialled}
 use Rattle.trunk.specs.declared.Seized.{Seized}
 use Rattle.trunk.specs.declared.Told.{Told}
 use Rattle.trunk.specs.Trunk.{freshTrunk, taken}
-use Rattle.replay.specs.Periods.{Mark, filled, carried, Near, Among, Sublist}
-use Rattle.replay.specs.Claims.{BothReplay}
+use Rattle.replay.specs.Periods.{Mark, filled, carried, freshOf, Among, AllIn}
+use Rattle.replay.specs.Claims.{Arriving, BothTake}
 use Rattle.carried.specs.Emissions.{Emission}
 use Rattle.carried.specs.Digits as digits
 use Rattle.carried.specs.Signalling as signalling
@@ -50,6 +50,15 @@ arrivals cs = map (λ (p : Emission). p .number) (payloadsOf cs)
 abbrev pub toldOf : ℕ → Found → Trunk → Coming → Told
 toldOf kind found t (came p) = taken t found kind (p .octets)
 toldOf kind found t (other ptype octets) = taken t found ptype octets
+
+-- the numbers that it tells of the sender's payloads
+abbrev pub numberOf : Coming → Told → List ℕ → List ℕ
+numberOf (came p) x numbers = x .number ∷ numbers
+numberOf (other ptype octets) x numbers = numbers
+
+abbrev pub numbersOf : ℕ → Found → Trunk → List Coming → List ℕ
+numbersOf kind found t [] = []
+numbersOf kind found t (c ∷ cs) = numberOf c (toldOf kind found t c) (numbersOf kind found (toldOf kind found t c .trunk) cs)
 
 -- The trunk's records: what its receivers append, one after the other. Digits have type 1, signalling type 2.
 abbrev pub dialledMarks : Dialled → List (Mark Window)
@@ -83,10 +92,11 @@ NoSignalling found (other ptype octets ∷ cs) =
 -- What is given: a sub-channel that carries digits, and demand 3's words (Digits.antt).
 pub record DigitsGiven (found : Found) (entries : List dialling-entry.Entry) (first second : List Coming) : Type 0 where
   pub carries : layoutOf found 1 ≡ OfDigits
-  pub some : Sublist (payloadsOf second) (digits.emissions freshSender 0 entries)
-  pub more : Sublist (payloadsOf first) (payloadsOf second)
-  pub near : Near dialled.farthest (arrivals first)
-  pub near2 : Near dialled.farthest (arrivals second)
+  pub some : AllIn (payloadsOf first) (digits.emissions freshSender 0 entries)
+  pub some2 : AllIn (payloadsOf second) (digits.emissions freshSender 0 entries)
+  pub arriving : Arriving dialled.farthest digits.mostBehind (arrivals first)
+  pub arriving2 : Arriving dialled.farthest digits.mostBehind (arrivals second)
+  pub more : Among (freshOf (arrivals first)) (freshOf (arrivals second))
   pub others : NoDigits found first
   pub others2 : NoDigits found second
 
@@ -94,18 +104,18 @@ abbrev pub TrunkDigitsCarried : Type 0
 TrunkDigitsCarried =
     (found : Found) (entries : List dialling-entry.Entry) (first second : List Coming)
     → DigitsGiven found entries first second
-    → BothReplay (digits.periodOf entries) (arrivals first) (digitRecord found freshTrunk first) (arrivals second) (digitRecord found freshTrunk second)
+    → BothTake (digits.periodOf entries) (arrivals first) (digitRecord found freshTrunk first) (numbersOf 1 found freshTrunk first) (arrivals second) (digitRecord found freshTrunk second) (numbersOf 1 found freshTrunk second)
 
 -- The same of signalling (Signalling.antt).
 pub record SignallingGiven (found : Found) (start : ℕ) (entries : List seizing-entry.Entry) (first second : List Coming) : Type 0 where
   pub carries : layoutOf found 2 ≡ OfSignalling
   pub begins : started start .number ≡ sound
   pub ten : signalling.TenEach entries
-  pub some : Sublist (payloadsOf first) (signalling.emissions (started start .sender) 0 entries)
-  pub some2 : Sublist (payloadsOf second) (signalling.emissions (started start .sender) 0 entries)
-  pub more : Among (arrivals first) (arrivals second)
-  pub near : Near seized.farthest (arrivals first)
-  pub near2 : Near seized.farthest (arrivals second)
+  pub some : AllIn (payloadsOf first) (signalling.emissions (started start .sender) 0 entries)
+  pub some2 : AllIn (payloadsOf second) (signalling.emissions (started start .sender) 0 entries)
+  pub arriving : Arriving seized.farthest signalling.mostBehind (arrivals first)
+  pub arriving2 : Arriving seized.farthest signalling.mostBehind (arrivals second)
+  pub more : Among (freshOf (arrivals first)) (freshOf (arrivals second))
   pub others : NoSignalling found first
   pub others2 : NoSignalling found second
 
@@ -113,4 +123,4 @@ abbrev pub TrunkSignallingCarried : Type 0
 TrunkSignallingCarried =
     (found : Found) (start : ℕ) (entries : List seizing-entry.Entry) (first second : List Coming)
     → SignallingGiven found start entries first second
-    → BothReplay (signalling.periodOf start entries) (arrivals first) (signallingRecord found freshTrunk first) (arrivals second) (signallingRecord found freshTrunk second)
+    → BothTake (signalling.periodOf start entries) (arrivals first) (signallingRecord found freshTrunk first) (numbersOf 2 found freshTrunk first) (arrivals second) (signallingRecord found freshTrunk second) (numbersOf 2 found freshTrunk second)

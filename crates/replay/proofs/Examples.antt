@@ -105,7 +105,8 @@ farthest-replays k n room enough =
     subst (λ (fs : List ℕ). Replays numbers fs (marksOf k n arrivals)) fresh
     (replay ℕ k n (bare k n) some numbers unheard (map (pay k numbers) arrivals) n (n + 1) arrivals (bare-by-rule k n) refl (brought-all (map (pay k numbers) arrivals))
     (record { first = enough; ahead = omega arith; behind = room })
-    (record { near = subst (Near n) (sym fresh) near; behind = behind }))
+    (record { near = subst (Near n) (sym fresh) near; behind = behind })
+    .replays)
 
 pub costs : Costs
 costs = record { long-loss = refl; gets-less = refl; gets-more = refl }

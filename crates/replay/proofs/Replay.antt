@@ -16,7 +16,7 @@ use Rattle.counts.specs.Round.{step}
 use Rattle.counts.proofs.Laws.{laws}
 use Rattle.replay.specs.Rule.{older, fillCount}
 use Rattle.replay.specs.Periods.{Payload, pay, Mark, filled, carried, told, heldAt, covered, cell, range, firstOf, lastFrom, spanOf, freshFrom, freshOf, dueFrom, dueOf, BehindFrom, Behind}
-use Rattle.replay.specs.Claims.{Receiver, recordOf, byStep, stepOf, Takes, Passes, Leaves, Meets, Acts, ByRule, Told, joinedTo, broughtBy, answerTo, answersOf, Replays, Replay, TakenAsFresh, SecondKeeps, TwoReceivers}
+use Rattle.replay.specs.Claims.{Receiver, recordOf, byStep, stepOf, Takes, Passes, Leaves, Meets, Acts, ByRule, Told, joinedTo, broughtBy, answerTo, answersOf, Replays, Replay, SecondKeeps, TwoReceivers}
 use Rattle.replay.proofs.Ranges.{map-append, map-replicate, length-range, range-append, map-range, map-constant, inside, outside, here, before, beyond, last-low, none-before, none-beyond, covers-more, Chain, Close, close}
 
 cell-true : {A : Type 0} (S : ℕ → A) (arrivals : List ℕ) (j : ℕ) → covered arrivals j ≡ true → cell S arrivals j ≡ some (S j)
@@ -350,11 +350,8 @@ module _ {A : Type 0} (S : ℕ → A) (gap : ℕ) (marks : List (Mark A)) where
 pub replay : Replay
 replay A k far r brings S s es gap back arrivals rule fresh brought apart arriving =
     let c = close gap arrivals (arriving .near) in
-    by-place S gap (recordOf r s es) (freshOf arrivals) c (first k far r brings S gap back apart rule es s arrivals fresh c (arriving .behind) brought .0)
-
-pub taken-as-fresh : TakenAsFresh
-taken-as-fresh A k far r brings S s es gap back arrivals rule fresh brought apart arriving =
-    first k far r brings S gap back apart rule es s arrivals fresh (close gap arrivals (arriving .near)) (arriving .behind) brought .1
+    let shown = first k far r brings S gap back apart rule es s arrivals fresh c (arriving .behind) brought in
+    record { replays = by-place S gap (recordOf r s es) (freshOf arrivals) c (shown .0); answers = shown .1 }
 
 -- what a cell holds is the sender's, and is covered
 cell-some : {A : Type 0} (t : Bool) (a b : A) → cond t (some a) none ≡ some b → (t ≡ true) × (a ≡ b)
@@ -371,7 +368,12 @@ two-receivers A k far r brings S s es es2 gap back arrivals others rule fresh br
     let one = replay A k far r brings S s es gap back arrivals rule fresh brought apart arriving in
     let two = replay A k far r brings S s es2 gap back others rule fresh brought2 apart arriving2 in
     record {
-      first = one;
-      second = two;
-      keeps = second-keeps A S (freshOf arrivals) (freshOf others) (recordOf r s es) (recordOf r s es2) among one two;
+      both =
+          record {
+            first = one .replays;
+            second = two .replays;
+            keeps = second-keeps A S (freshOf arrivals) (freshOf others) (recordOf r s es) (recordOf r s es2) among (one .replays) (two .replays);
+          };
+      answers = one .answers;
+      answers2 = two .answers;
     }

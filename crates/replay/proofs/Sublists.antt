@@ -99,6 +99,13 @@ sublist-in xs ys none-left = tt
 sublist-in xs ys (left-out {x} {xs = rest} {ys = more} s) = all-further rest more x (sublist-in rest more s)
 sublist-in xs ys (taken {x} {xs = rest} {ys = more} s) = (here, all-further rest more x (sublist-in rest more s))
 
+-- some of some are some
+pub sublist-of : {A : Type 0} (xs ys zs : List A) → Sublist xs ys → Sublist ys zs → Sublist xs zs
+sublist-of xs ys zs s none-left = s
+sublist-of xs ys zs s (left-out {ys = more} t) = left-out (sublist-of xs ys more s t)
+sublist-of xs ys zs (left-out {xs = rest} {ys = between} s) (taken {ys = more} t) = left-out (sublist-of rest between more s t)
+sublist-of xs ys zs (taken {xs = rest} {ys = between} s) (taken {ys = more} t) = taken (sublist-of rest between more s t)
+
 all-join : {A : Type 0} (xs ys zs : List A) → AllIn xs zs → AllIn ys zs → AllIn (xs ++ ys) zs
 all-join [] ys zs all all2 = all2
 all-join (x ∷ xs) ys zs all all2 = (all .0, all-join xs ys zs (all .1) all2)

@@ -1,6 +1,6 @@
 -- The replay theorem, once over the width k and the kind A of a period: what a receiver that goes by the rule of Rule.antt
 -- answers, and has in its record, when payloads of one sender arrive (document 01, "Receivers"; demand 3, as document 02, wish 3
--- reads it). `Replay` and `TakenAsFresh` say it of one receiver, `TwoReceivers` of two. Proved in proofs/Replay.antt.
+-- reads it). `Replay` says it of one receiver, `TwoReceivers` of two. Proved in proofs/Replay.antt.
 use Prim.Native.Nat.{ℕ, _+_, _%_, _^_, _<_, _≤_}
 use mathlib.Core.Path.{_≡_}
 use mathlib.Core.List.{List, [], _∷_, _++_, map}
@@ -107,8 +107,13 @@ pub record Arriving (gap back : ℕ) (arrivals : List ℕ) : Type 0 where
   pub near : Near gap (freshOf arrivals)
   pub behind : Behind back arrivals
 
--- What holds of a sender and a fresh receiver, with any events in between that bring no payload: its record is what the fresh
--- arrivals demand.
+-- A receiver's record and answers, as the sender's periods and all arrivals demand them: the record is that of the fresh ones, and
+-- it answers 0 to exactly these and 19 to the others.
+pub record Takings {A : Type 0} (S : ℕ → A) (arrivals : List ℕ) (marks : List (Mark A)) (numbers : List ℕ) : Type 0 where
+  pub replays : Replays S (freshOf arrivals) marks
+  pub answers : numbers ≡ dueOf arrivals
+
+-- What holds of a sender and a fresh receiver, with any events in between that bring no payload.
 abbrev pub Replay : Type 1
 Replay =
     (A : Type 0) (k far : ℕ) (r : Receiver A) (brings : r .Event → Option (Payload A)) (S : ℕ → A) (s : r .State) (es : List (r .Event)) (gap back : ℕ) (arrivals : List ℕ)
@@ -117,18 +122,7 @@ Replay =
     → broughtBy brings es ≡ map (pay k S) arrivals
     → Told k far gap back
     → Arriving gap back arrivals
-    → Replays S (freshOf arrivals) (recordOf r s es)
-
--- And it answers 0 to exactly the fresh ones, and 19 to the others.
-abbrev pub TakenAsFresh : Type 1
-TakenAsFresh =
-    (A : Type 0) (k far : ℕ) (r : Receiver A) (brings : r .Event → Option (Payload A)) (S : ℕ → A) (s : r .State) (es : List (r .Event)) (gap back : ℕ) (arrivals : List ℕ)
-    → ByRule k far r brings
-    → r .heard s ≡ false
-    → broughtBy brings es ≡ map (pay k S) arrivals
-    → Told k far gap back
-    → Arriving gap back arrivals
-    → answersOf r brings s es ≡ dueOf arrivals
+    → Takings S arrivals (recordOf r s es) (answersOf r brings s es)
 
 -- "whatever the first marks carried, the second marks carried with the same content"
 abbrev pub Keeps : {A : Type 0} → List ℕ → List (Mark A) → List ℕ → List (Mark A) → Type 0
@@ -148,6 +142,12 @@ pub record BothReplay {A : Type 0} (S : ℕ → A) (arrivals : List ℕ) (marks 
   pub second : Replays S arrivals2 marks2
   pub keeps : Keeps arrivals marks arrivals2 marks2
 
+-- And as document 02, wish 3, reads it, of all that arrived: the fresh ones are replayed, and each receiver answers as they tell.
+pub record BothTake {A : Type 0} (S : ℕ → A) (arrivals : List ℕ) (marks : List (Mark A)) (numbers : List ℕ) (arrivals2 : List ℕ) (marks2 : List (Mark A)) (numbers2 : List ℕ) : Type 0 where
+  pub both : BothReplay S (freshOf arrivals) marks (freshOf arrivals2) marks2
+  pub answers : numbers ≡ dueOf arrivals
+  pub answers2 : numbers2 ≡ dueOf arrivals2
+
 -- Two fresh receivers, "where the second receiver's fresh ones include all of the first's": a payload and its static repeat have
 -- one number, and count as one.
 abbrev pub TwoReceivers : Type 1
@@ -161,4 +161,4 @@ TwoReceivers =
     → Arriving gap back arrivals
     → Arriving gap back arrivals2
     → Among (freshOf arrivals) (freshOf arrivals2)
-    → BothReplay S (freshOf arrivals) (recordOf r s es) (freshOf arrivals2) (recordOf r s es2)
+    → BothTake S arrivals (recordOf r s es) (answersOf r brings s es) arrivals2 (recordOf r s es2) (answersOf r brings s es2)
