@@ -428,14 +428,16 @@ def compare_digit_entries(rng, row):
 
 
 def compare_payloads(rng, sent):
-    """A run's payloads: lost, doubled, out of turn, damaged."""
+    """A run's payloads: lost, also as many as the receivers' bounds, doubled, late, damaged."""
     items, at = [], 0
     while at < len(sent) and len(items) < 600:
         item = sent[at]
         items.append(damaged(rng, item) if rng.random() < 0.1 else octets(rng, len(item)) if rng.random() < 0.03 else item)
         at += rng.choice([0, 1, 1, 1, 1, 1, 2, 3, 4, 5, rng.randrange(300)]) if rng.random() < 0.4 else 1
         if rng.random() < 0.02:
-            at = max(0, at - rng.randrange(6))
+            at += rng.choice([62, 63, 64, 65, 126, 127, 128, 129])
+        if rng.random() < 0.04:
+            at = max(0, at - rng.choice([rng.randrange(6), rng.randrange(62, 68), rng.randrange(126, 132)]))
     return items
 
 

@@ -632,6 +632,9 @@ PLAIN unsigned signalling_send(struct signalling_sender *sender, bool alarm, con
 
 /* ---- Receivers ---- */
 
+/* The farthest steps that are replayed: a payload beyond is older (document 02, wish 3). */
+enum { DIGITS_FARTHEST = 127, SIGNALLING_FARTHEST = 63 };
+
 PLAIN unsigned digit_receive(struct digit_receiver *receiver, const uint8_t *payload, size_t length, struct digit_answer *answer)
 {
     struct digits digits;
@@ -640,6 +643,8 @@ PLAIN unsigned digit_receive(struct digit_receiver *receiver, const uint8_t *pay
     if (number)
         return number;
     step = receiver->heard ? (uint8_t)(digits.sequence - receiver->sequence) : 3;
+    if (step > DIGITS_FARTHEST)
+        return OLDER_PAYLOAD;
     if (step == 0)
         return 0;
     if (step > 3) {
@@ -666,8 +671,10 @@ PLAIN unsigned signalling_receive(struct signalling_receiver *receiver, const ui
     if (length != 16)
         return LENGTH_WRONG;
     sequence = payload[0] & 127;
-    receiver->alarm = payload[0] >> 7;
     step = receiver->heard ? (sequence - receiver->sequence) & 127 : 3;
+    if (step > SIGNALLING_FARTHEST)
+        return OLDER_PAYLOAD;
+    receiver->alarm = payload[0] >> 7;
     if (step == 0) {
         receiver->value = payload[1] & 15;
         return 0;

@@ -1,5 +1,5 @@
 /* Plain C of document 01's work: frames, payloads, writer, senders, receivers, provisioning text, listing; and of document
-   02's fax replay. "Document 01" is ../shared/documents/01-scope.md, "document 02" 02-change-requests.md beside it; a comment
+   02's older payloads and fax replay. "Document 01" is ../shared/documents/01-scope.md, "document 02" 02-change-requests.md beside it; a comment
    names its section or wish. Functions that may refuse return the refusal number, 0 where there is none. What an out-parameter
    holds beside a refusal has no meaning, unless said. */
 #ifndef PLAIN_H
@@ -32,6 +32,7 @@ enum {
     OUT_OF_RANGE = 15,
     CODING_WRONG = 16,
     EDGE_WITHOUT_CHANGE = 17,
+    OLDER_PAYLOAD = 19,
     ROOM_TOO_SMALL = 21,
     TOO_LONG_NOT_LAST = 22,
     FRAME_FULL = 23,

@@ -2,13 +2,14 @@
 use Prim.Native.Nat.{ℕ, _<_}
 use mathlib.Core.Path.{_≡_, refl, sym, ap, _∙_}
 use mathlib.Core.List.{List, [], _∷_}
-use mathlib.Core.Bool.{Bool, true, false, not}
+use mathlib.Core.Bool.{true, false, not}
 use native.Mathlib.Omega.{arith}
 use borrow.Author.Tests.{ltb-true, ltb-false}
 use lib.Dec.{ltb, eqb}
 use lib.ListN.{length}
 use Rattle.refusal.specs.Numbers.{sound, lengthWrong, reservedCode, valueOutOfRange, olderPayload}
-use Rattle.refusal.specs.Order.{_gives_, inOrder}
+use Rattle.refusal.specs.Order.{_gives_}
+use Rattle.refusal.proofs.Order as order
 use Rattle.octets.proofs.Order.{either}
 use Rattle.digits.specs.declared.layout.Digits.{Digits}
 use Rattle.digits.specs.declared.layout.DigitsRead.{DigitsRead}
@@ -29,13 +30,13 @@ numberOf x = x .number
 
 not-read : (payload : List ℕ) → digitsRead payload ≡ BadDigits olderPayload → ⊥
 unfolding digitsRead
-not-read payload e = go (not (eqb (length payload) 8)) (anyReserved payload) (windowsWrong (digitsIn payload)) (digitsIn payload) e
-  where
-    go : (a b c : Bool) (d : Digits) → inOrder (a gives lengthWrong ∷ b gives reservedCode ∷ c gives valueOutOfRange ∷ []) BadDigits (Dialled d) ≡ BadDigits olderPayload → ⊥
-    go true b c d e = let z : _≡_ {A = ℕ} lengthWrong olderPayload = ap numberIn e in omega arith
-    go false true c d e = let z : _≡_ {A = ℕ} reservedCode olderPayload = ap numberIn e in omega arith
-    go false false true d e = let z : _≡_ {A = ℕ} valueOutOfRange olderPayload = ap numberIn e in omega arith
-    go false false false d e = let z : _≡_ {A = ℕ} sound olderPayload = ap numberIn e in omega arith
+not-read payload e =
+    let low = order.below numberIn BadDigits (Dialled (digitsIn payload)) olderPayload (λ n. refl) (omega arith)
+    (not (eqb (length payload) 8) gives lengthWrong ∷ anyReserved payload gives reservedCode ∷ windowsWrong (digitsIn payload) gives valueOutOfRange ∷ [])
+    (tt, (tt, (tt, tt)))
+    in
+    let same : numberIn (digitsRead payload) ≡ olderPayload = ap numberIn e in
+    omega (arith, low, same)
 
 -- a payload that reads, by its step
 module _ (r : Receiver) (payload : List ℕ) (d : Digits) (is : digitsRead payload ≡ Dialled d) where

@@ -2,3 +2,4 @@ pub mod LayoutCases
 pub mod CheckCases
 pub mod ContentBack
 pub mod ContentAgain
+pub mod Numbers

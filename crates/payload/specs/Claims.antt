@@ -1,16 +1,17 @@
--- A content written on its sub-channel and read again, and a payload read there and written again (demand 2). Proved in
--- proofs/ContentBack.antt and proofs/ContentAgain.antt.
-use Prim.Native.Nat.{ℕ}
+-- A content written on its sub-channel and read again, and a payload read there and written again (demand 2); and which numbers
+-- reading gives. Proved in proofs/ContentBack.antt, proofs/ContentAgain.antt and proofs/Numbers.antt.
+use Prim.Native.Nat.{ℕ, _<_}
 use mathlib.Core.Path.{_≡_}
 use mathlib.Core.List.{List}
 use lib.ListN.{length}
+use Rattle.refusal.specs.Numbers.{edgeWithoutChange}
 use Rattle.octets.specs.Octets.{Octets}
 use Rattle.octets.specs.Made.{made}
 use Rattle.record.specs.declared.table.Found.{Found}
 use Rattle.digits.specs.Claims.{normal}
 use Rattle.payload.specs.declared.layout.TypeFor.the-variants.{Typed}
 use Rattle.payload.specs.Layout.{typeFor}
-use Rattle.payload.specs.Content.{Content, speech, dialled, seized, faxed, silent, fragment, reads, payloadRead, kindOf, payloadMade}
+use Rattle.payload.specs.Content.{Content, speech, dialled, seized, faxed, silent, fragment, reads, payloadRead, numberOf, kindOf, payloadMade}
 
 -- "save that a level above zero and the code of an off window come back as 0"
 abbrev pub normalContent : Content → Content
@@ -54,3 +55,7 @@ ContentMadeAgain =
     → Octets octets
     → payloadRead found ptype octets ≡ reads content
     → Again found ptype octets content
+
+-- Reading a payload, and so checking and listing it, gives 0 or a number up to 16: never 19, nor 41 or 42, which are a receiver's.
+abbrev pub ReadingGives : Type 0
+ReadingGives = (found : Found) (ptype : ℕ) (p : List ℕ) → numberOf (payloadRead found ptype p) < edgeWithoutChange

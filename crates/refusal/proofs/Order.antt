@@ -1,5 +1,5 @@
 -- Laws of `inOrder` (specs/Order.antt): what the first test that holds gives, and what is left where none does.
-use Prim.Native.Nat.{ℕ}
+use Prim.Native.Nat.{ℕ, _<_}
 use mathlib.Core.Path.{_≡_, refl}
 use mathlib.Core.List.{List, [], _∷_}
 use mathlib.Core.Bool.{Bool, true, false, cond}
@@ -61,4 +61,23 @@ by-number refused sound (t ∷ ts) n = go (t .holds) (by-number refused sound ts
         → cond h (refused (t .number)) (inOrder ts refused sound)
         ≡ cond (eqb (cond h (t .number) (numberOf ts)) 0) sound (refused (cond h (t .number) (numberOf ts)))
     go true rest = simp (ne-eqb (t .number) 0 (λ e. omega (arith, ltb→lt 0 (t .number) (n .0))))
+    go false rest = rest
+
+-- where the numbers of the tests lie below a bound, so does the number of what they give
+abbrev pub Below : ℕ → List Test → Type 0
+Below m [] = Unit
+Below m (t ∷ ts) = T (ltb (t .number) m) × Below m ts
+
+pub below :
+    {A : Type 0} (number : A → ℕ) (refused : ℕ → A) (sound : A) (m : ℕ)
+    → ((n : ℕ) → number (refused n) ≡ n)
+    → number sound < m
+    → (ts : List Test)
+    → Below m ts
+    → number (inOrder ts refused sound) < m
+below number refused sound m is low [] b = low
+below number refused sound m is low (t ∷ ts) b = go (t .holds) (below number refused sound m is low ts (b .1))
+  where
+    go : (h : Bool) → number (inOrder ts refused sound) < m → number (cond h (refused (t .number)) (inOrder ts refused sound)) < m
+    go true rest = rw (is (t .number)) (ltb→lt (t .number) m (b .0))
     go false rest = rest
