@@ -19,7 +19,7 @@ pub fn read_cid(word: &str) -> Option<u8> {
 
 /// What a trunk does with an accepted payload.
 #[derive(Clone, Debug, PartialEq, Eq)]
-enum Answer {
+pub enum Answer {
     /// Digits were replayed.
     Digits(DigitAnswer),
     /// Signalling was replayed.
@@ -32,16 +32,17 @@ enum Answer {
 
 /// What the far end keeps for the sub-channel; fresh at the start.
 #[derive(Clone, Debug, Default, PartialEq, Eq)]
-struct Trunk {
-    digits: DigitReceiver,
-    signalling: SignallingReceiver,
+pub struct Trunk {
+    pub digits: DigitReceiver,
+    pub signalling: SignallingReceiver,
     fax: FaxReplay,
 }
 
 impl Trunk {
-    /// Takes a payload of the sub-channel with its type: 11 to 16, for fax 41 or
-    /// 42 after them, and then nothing changes, or the answer.
-    fn take(&mut self, table: &Table, sub_frame: &SubFrame) -> Result<Answer, Refusal> {
+    /// Takes a payload of the sub-channel with its type: 11 to 16, after them 19
+    /// for digits and signalling, 41 or 42 for fax, and then nothing changes; or
+    /// the answer.
+    pub fn take(&mut self, table: &Table, sub_frame: &SubFrame) -> Result<Answer, Refusal> {
         let SubFrame {
             cid,
             payload_type,
@@ -317,6 +318,50 @@ mod tests {
             assert!(output.ends_with("carried=2\nperiod=010005\nperiod=010005\n"));
         }
         assert_eq!(frames(6, &["06 0e"]), printed(0, 0, 1, 16));
+    }
+
+    #[test]
+    fn wish_3_an_older_digits_payload_is_answered_by_19_and_changes_nothing() {
+        for older in [4, 133, 200, 255] {
+            let output = frames(5, &[&tone(5), &tone(older), &tone(6)]);
+            let wanted = printed(1, 1, 8, 19) + &printed(2, 1, 8, 0);
+            let end = "filled=0\nwith=000000\ncarried=1\nperiod=010005\n";
+            assert!(output.ends_with(&(wanted + end)), "{older}");
+        }
+        let output = frames(5, &[&tone(5), &tone(132)]);
+        assert!(output.contains("filled=124\nwith=010005\ncarried=3\n"));
+        // A tone that voice ended stays ended.
+        assert_eq!(fill_after(5, &[VOICE, &tone(255)]), "with=000000");
+        // What is wrong in it comes first.
+        let refused = [
+            ("8501 0400 2005 2005 20", 13),
+            ("8501 0480 2005 2005 2005", 14),
+            ("8501 0400 2005 2005 3405", 15),
+        ];
+        for (frame, number) in refused {
+            let output = frames(5, &[&tone(5), frame]);
+            assert!(output.ends_with(&format!("answer={number}\n")));
+        }
+        // Another sub-channel has another trunk.
+        let other = tone(4).replacen("85", "86", 1);
+        assert!(frames(6, &[&tone(5), &other]).contains("answer=0\n"));
+    }
+
+    #[test]
+    fn wish_3_an_older_signalling_payload_is_answered_by_19_and_changes_nothing() {
+        // On the fax sub-channel, which takes signalling too.
+        let samples = |first: u8| format!("8702 {first:02x} 1111111111 2222222222 3333333343");
+        for older in [4, 0x84, 69, 100, 127] {
+            let output = frames(7, &[&samples(5), &samples(older), &samples(6)]);
+            let wanted = printed(1, 2, 16, 19) + &printed(2, 2, 16, 0);
+            let end = "filled=0\nwith=00\ncarried=1\nperiod=03030303030303030304\n\
+                       value=4\nalarm=0\n";
+            assert!(output.ends_with(&(wanted + end)), "{older}");
+        }
+        let output = frames(7, &[&samples(5), &samples(68)]);
+        assert!(output.contains("filled=60\nwith=04\ncarried=3\n"));
+        let output = frames(7, &[&samples(5), "8702 04"]);
+        assert!(output.ends_with("answer=13\n"));
     }
 
     #[test]

@@ -1,6 +1,6 @@
 //! The second program: an independent implementation of document 01 (rules and
-//! scope of the build), of wish 1 of document 02 and of FRF.11, used as evidence
-//! against the proved one.
+//! scope of the build), of wishes 1 and 3 of document 02 and of FRF.11, used as
+//! evidence against the proved one.
 //!
 //! One module a heading of document 01:
 //!
@@ -13,9 +13,10 @@
 //! - `listing`: "Listing program"
 //! - `bench`: "Bench examples"
 //!
-//! One a wish of document 02 (changes requested after the base):
+//! Of document 02 (changes requested after the base):
 //!
 //! - `fax_replay`: wish 1, "Fax at the far end"
+//! - `receivers`: wish 3, "Late payloads through a tunnel"
 //!
 //! And what belongs to no heading: `trial` (docs/TRIAL.md), `unit`
 //! (docs/UNIT.md), `follow` (docs/FOLLOW.md), `generate` (inputs made from a

@@ -285,14 +285,11 @@ mod tests {
         receiver
     }
 
-    /// The answer to a payload with one number after one with another.
-    fn digits_after(last: u8, new: u8) -> Result<DigitAnswer, Refusal> {
-        digits_at(last).accept(&digits_numbered(new))
-    }
-
-    /// Its fill count and its carried count.
+    /// The fill count and the carried count of a payload with one number after
+    /// one with another.
     fn digit_counts_after(last: u8, new: u8) -> Result<(u8, usize), Refusal> {
-        digits_after(last, new).map(|it| (it.filled, it.carried))
+        let answer = digits_at(last).accept(&digits_numbered(new));
+        answer.map(|it| (it.filled, it.carried))
     }
 
     /// A signalling payload of thirty samples, oldest first.
@@ -323,8 +320,7 @@ mod tests {
         receiver
     }
 
-    /// The fill count and the carried count of a payload with one number after
-    /// one with another.
+    /// The fill count and the carried count, as of digits.
     fn signalling_counts_after(last: u8, new: u8) -> Result<(u8, usize), Refusal> {
         let payload = signalling_payload(new, true, numbered_samples());
         let answer = signalling_at(last).accept(&payload);
@@ -351,12 +347,14 @@ mod tests {
     fn every_digit_step_from_every_number() {
         for last in 0..=255u8 {
             for step in 0..=255u8 {
-                let answer = digits_after(last, last.wrapping_add(step));
+                let mut receiver = digits_at(last);
+                let answer = receiver.accept(&digits_numbered(last.wrapping_add(step)));
                 let (filled, carried) = match step {
                     0..=3 => (0, usize::from(step)),
                     4..=127 => (step - 3, 3),
                     _ => {
                         assert_eq!(answer, Err(19));
+                        assert_eq!(receiver, digits_at(last));
                         continue;
                     }
                 };
@@ -801,10 +799,7 @@ mod tests {
 
     /// The record of a digit receiver that gets payloads in some order, and which
     /// of them it takes as older.
-    fn digits_in_order(
-        payloads: &[[u8; 8]],
-        order: &[usize],
-    ) -> (Vec<Period<Window>>, Vec<usize>) {
+    fn digits_in_order(payloads: &[[u8; 8]], order: &[usize]) -> (Vec<Period<Window>>, Vec<usize>) {
         let mut receiver = DigitReceiver::new();
         let (mut record, mut older) = (Vec::new(), Vec::new());
         for place in order {
@@ -876,7 +871,9 @@ mod tests {
         assert_eq!((first.len(), older), (8, vec![]));
         let (second, older) = samples_in_order(&payloads, &[0, 9, 5]);
         assert_eq!((second.len(), older), (12, vec![5]));
-        assert!(second[3..9].iter().all(|it| matches!(it, Period::Filled(_))));
+        assert!(second[3..9]
+            .iter()
+            .all(|it| matches!(it, Period::Filled(_))));
     }
 
     #[test]

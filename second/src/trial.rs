@@ -341,6 +341,103 @@ mod tests {
         );
     }
 
+    /// What the first receiver answers to signalling payloads with these first
+    /// octets, 15 octets 00 behind each: of each the lines after `receiver=1`,
+    /// the periods left out.
+    fn signalling_after(firsts: &[u8]) -> Vec<String> {
+        let line = |first: &u8| format!("signalling=01{first:02x}{}", "00".repeat(15));
+        answers_of_the_first(firsts.iter().map(line).collect())
+    }
+
+    /// The same of digits payloads, 7 octets 00 behind each number.
+    fn digits_after(numbers: &[u8]) -> Vec<String> {
+        let line = |number: &u8| format!("digits=01{number:02x}{}", "00".repeat(7));
+        answers_of_the_first(numbers.iter().map(line).collect())
+    }
+
+    fn answers_of_the_first(input: Vec<String>) -> Vec<String> {
+        let input: Vec<&str> = input.iter().map(String::as_str).collect();
+        let output = lines(&input);
+        let mut answers: Vec<String> = Vec::new();
+        for line in output.lines().filter(|line| !line.starts_with("period=")) {
+            match line {
+                "receiver=1" => answers.push(String::new()),
+                line => *answers.last_mut().unwrap() += &format!("{line} "),
+            }
+        }
+        answers
+    }
+
+    #[test]
+    fn wish_3_signalling_line_by_line() {
+        let replayed = |filled: u8, carried: u8, alarm: u8| {
+            format!("filled={filled} with=00 carried={carried} value=0 alarm={alarm} ")
+        };
+        let rows = [
+            // last and then, or none and then; the answer to it.
+            (&[0x05][..], replayed(0, 3, 0)),
+            (&[0x05, 0x04], "refused=19 ".into()),
+            (&[0x05, 0x84], "refused=19 ".into()),
+            (&[0x05, 0x84, 0x05], replayed(0, 0, 0)),
+            (&[0x05, 0x05], replayed(0, 0, 0)),
+            (&[0x05, 0x44], replayed(60, 3, 0)),
+            (&[0x05, 0x45], "refused=19 ".into()),
+            (&[100, 0x23], replayed(60, 3, 0)),
+            (&[100, 0x24], "refused=19 ".into()),
+        ];
+        for (firsts, wanted) in rows {
+            let answers = signalling_after(firsts);
+            assert_eq!(answers[0], replayed(0, 3, 0), "{firsts:?}");
+            assert_eq!(answers.last(), Some(&wanted), "{firsts:?}");
+        }
+        // Number 4 after 5, and only 14 octets behind it: its length comes first.
+        let first = format!("signalling=0105{}", "00".repeat(15));
+        let short = format!("signalling=0104{}", "00".repeat(14));
+        let output = lines(&[&first, &short]);
+        assert!(output.ends_with("alarm=0\nreceiver=1\nrefused=13\n"));
+    }
+
+    #[test]
+    fn wish_3_digits_line_by_line() {
+        let replayed =
+            |filled: u8, carried: u8| format!("filled={filled} with=000000 carried={carried} ");
+        let rows = [
+            (&[0x05][..], replayed(0, 3)),
+            (&[0x05, 0x84], replayed(124, 3)),
+            (&[0x05, 0x85], "refused=19 ".into()),
+            (&[0x05, 0x04], "refused=19 ".into()),
+            (&[0x05, 0x05], replayed(0, 0)),
+        ];
+        for (numbers, wanted) in rows {
+            assert_eq!(digits_after(numbers).last(), Some(&wanted), "{numbers:?}");
+        }
+        // Number 4 after 5 with a reserved bit: that comes first.
+        let first = "digits=010500000000000000";
+        let output = lines(&[first, "digits=010480000000000000"]);
+        assert!(output.ends_with("period=000000\nreceiver=1\nrefused=14\n"));
+    }
+
+    #[test]
+    fn wish_3_a_payload_that_comes_late_is_refused_and_changes_nothing() {
+        // Numbers 0, 1, 3, 2, 4 to the first, 0, 1, 3, 4 to the second.
+        let output = lines(&[
+            "digit=0301010000",
+            "digit=0301020000",
+            "digit=0001030000",
+            "digit=0301040000",
+            "digits=010200200320022001",
+            "digit=0301050000",
+        ]);
+        assert_eq!(output.matches("receiver=1\nrefused=19\n").count(), 1);
+        assert_eq!(output.matches("refused=").count(), 1);
+        let end = |receiver: u8| {
+            format!("receiver={receiver}\nfilled=0\nwith=000000\ncarried=1\nperiod=010005\n")
+        };
+        assert!(output.ends_with(&(end(1) + &end(2))), "{output}");
+        // The payload that came late is the one that was sent.
+        assert!(output.contains("sent=0200200320022001\n"));
+    }
+
     #[test]
     fn a_refused_start_value_leaves_the_sender_as_it_was() {
         let entry = "samples=000000000000000000000001";

@@ -145,7 +145,7 @@ fn followed(kind: &str, seeds: std::ops::Range<u64>, count: &str) -> Vec<u8> {
 
 #[test]
 fn a_generated_recording_is_followed_by_its_first_cid_and_counted() {
-    let wanted = [0, 1, 2, 3, 4, 5, 6, 7, 8, 9, 12, 13, 14, 15, 16, 41, 42];
+    let wanted = [0, 1, 2, 3, 4, 5, 6, 7, 8, 9, 12, 13, 14, 15, 16, 19, 41, 42];
     assert_eq!(counted(&followed("follow", 0..10, "3000")), wanted);
 }
 

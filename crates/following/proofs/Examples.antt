@@ -36,7 +36,7 @@ lines (word ∷ words) = ascii word ++ lf ∷ [] ++ lines words
 pub input : List ℕ
 input =
     lines
-    ("cid=5" ∷ "syntax=acelp" ∷ "m=1" ∷ "seq=0" ∷ "frame=85010000240520050000" ∷ "frame=85010300240520052005" ∷ [])
+    ("cid=5" ∷ "syntax=acelp" ∷ "m=1" ∷ "seq=0" ∷ "frame=85010000240520050000" ∷ "frame=85010300240520052005" ∷ "frame=85010100200524052005" ∷ [])
 
 pub printed : List ℕ
 printed =
@@ -61,6 +61,10 @@ printed =
     ∷ "period=010005"
     ∷ "period=010005"
     ∷ "period=010405"
+    ∷ "frame=2"
+    ∷ "type=1"
+    ∷ "len=8"
+    ∷ "answer=19"
     ∷ [])
 
 pub follows : following 5 input ≡ printed

@@ -3,12 +3,15 @@
 
 use super::fax_calls::{call, fax_type};
 use super::frames::{field_of, fitting, line_of, Frames, Piece};
+use super::late::{Kind, Way};
 use super::payloads::Drawer;
 use super::records::{kinds, record, records};
 use super::{print_lines, Random};
-use crate::frame::SUB_FRAMES;
+use crate::follow::Trunk;
+use crate::frame::{open_frame, SUB_FRAMES};
+use crate::hex;
 use crate::payload::{DIGITS, FAX, PRIMARY, SID, SIGNALLING};
-use crate::provisioning::{write_text, Record, Syntax};
+use crate::provisioning::{write_text, Record, Syntax, Table};
 use crate::refusal::Refusal;
 use crate::senders::{DigitEntry, DigitSender, Samples, SignallingSender};
 use std::collections::VecDeque;
@@ -24,7 +27,8 @@ pub fn run(seed: u64, count: u64, mut output: impl Write) -> io::Result<()> {
     output.write_all(&write_text(&generator.frames.records))?;
     // The first line must be a frame line, or it is part of the text.
     let line = generator.frames.legal_line();
-    generator.lines.push(line);
+    generator.push(line);
+    generator.opening();
     print_lines(&mut output, count, seed % 4 == 3, || {
         let lines = generator.lines.split_off(0);
         generator.scene();
@@ -33,24 +37,40 @@ pub fn run(seed: u64, count: u64, mut output: impl Write) -> io::Result<()> {
     })
 }
 
-/// Makes the lines of one seed.
+/// The type of the payloads of a kind.
+fn type_of(kind: Kind) -> u8 {
+    match kind {
+        Kind::Digits => DIGITS,
+        Kind::Signalling => SIGNALLING,
+    }
+}
+
+/// Makes the lines of one seed. It follows them itself, so that it has the
+/// numbers that the trunk stands at.
 struct Generator {
     /// Frames and the records of the text.
     frames: Frames,
+    table: Table,
     /// The followed sub-channel.
     followed: Record,
+    /// Its trunk after the lines so far.
+    trunk: Trunk,
     /// The lines of the scene, without their LFs.
     lines: Vec<Vec<u8>>,
     /// What of the followed sub-channel waits for the next frame.
     waiting: Vec<Piece>,
     digit_sender: DigitSender,
     signalling_sender: SignallingSender,
+    /// The way of digits and that of signalling.
+    ways: [Way; 2],
     /// The state of the digit sender: on with a code, or off.
     sounding: Option<u8>,
     /// The last sample of the signalling sender.
     sample: u8,
     /// One payload in so many starts a burst of losses.
     loss_rate: usize,
+    /// One payload in so many is kept back, or comes again.
+    late_rate: usize,
     /// How many digits and how many signalling payloads are still lost.
     losses: [usize; 2],
     /// The rest of a fax call on another sub-channel.
@@ -72,38 +92,57 @@ impl Generator {
         let followed = record(&mut random, records[0].cid, kind);
         records[0] = followed;
         let loss_rate = random.pick(&[2, 4, 8, 20, 1000]);
+        let late_rate = random.pick(&[3, 4, 6, 12, 40]);
         let sample = random.small(0, 15);
         Ok(Generator {
+            table: Table::of(&records),
             frames: Frames::new(random, records),
             followed,
+            trunk: Trunk::default(),
             lines: Vec::new(),
             waiting: Vec::new(),
             digit_sender: DigitSender::new(),
             signalling_sender: SignallingSender::new(sample)?,
+            ways: Kind::BOTH.map(Way::new),
             sounding: None,
             sample,
             loss_rate,
+            late_rate,
             losses: [0; 2],
             other_fax: VecDeque::new(),
         })
     }
 
+    /// The first scene after the first line: late payloads of both kinds, so that
+    /// a short recording has them too.
+    fn opening(&mut self) {
+        for kind in Kind::BOTH {
+            self.swap(kind);
+        }
+        self.flush();
+    }
+
     /// One scene: some lines that belong together.
     fn scene(&mut self) {
+        self.mend();
         match self.random().below(100) {
-            0..=12 => self.dial(),
-            13..=18 => self.digit_gap(),
-            19..=29 => self.seizure(),
-            30..=34 => self.signalling_gap(),
-            35..=37 => self.quiet_run(),
-            38..=45 => self.fax_call(),
-            46..=57 => self.fax_crowd(),
-            58..=65 => self.voices(),
-            66..=73 => self.others(),
-            74..=77 => self.elsewhere(),
-            78..=81 => self.crowd(),
-            82..=83 => self.other_sub_channels(),
-            84..=85 => self.senders_anew(),
+            0..=9 => self.dial(),
+            10..=13 => self.digit_gap(),
+            14..=22 => self.seizure(),
+            23..=26 => self.signalling_gap(),
+            27..=28 => self.quiet_run(),
+            29..=36 => self.fax_call(),
+            37..=49 => self.fax_crowd(),
+            50..=57 => self.voices(),
+            58..=66 => self.others(),
+            67..=70 => self.elsewhere(),
+            71..=74 => self.crowd(),
+            75..=76 => self.other_sub_channels(),
+            77..=78 => self.senders_anew(),
+            79..=80 => self.late(Kind::Digits),
+            81..=82 => self.late(Kind::Signalling),
+            83..=84 => self.swap(Kind::Digits),
+            85..=86 => self.swap(Kind::Signalling),
             _ => self.any_lines(),
         }
     }
@@ -111,6 +150,25 @@ impl Generator {
     /// Where the drawing comes from.
     fn random(&mut self) -> &mut Random {
         &mut self.frames.random
+    }
+
+    /// The number that the trunk stands at, if it has taken one.
+    fn last(&self, kind: Kind) -> Option<u8> {
+        match kind {
+            Kind::Digits => self.trunk.digits.last_sequence(),
+            Kind::Signalling => self.trunk.signalling.last_sequence(),
+        }
+    }
+
+    /// A line of the recording, and what it does to the trunk.
+    fn push(&mut self, line: Vec<u8>) {
+        let field = line.strip_prefix(b"frame=").and_then(hex::read);
+        for sub_frame in field.iter().flat_map(|it| open_frame(it)).flatten() {
+            if sub_frame.cid == self.followed.cid {
+                drop(self.trunk.take(&self.table, &sub_frame));
+            }
+        }
+        self.lines.push(line);
     }
 
     /// A payload of the followed sub-channel waits for the next frame.
@@ -142,7 +200,7 @@ impl Generator {
             let place = self.random().below(places);
             pieces.insert(place, other);
         }
-        self.lines.push(line_of(&field_of(&pieces)));
+        self.push(line_of(&field_of(&pieces)));
     }
 
     /// A piece of at most 255 octets on another sub-channel, now and then
@@ -200,36 +258,122 @@ impl Generator {
         pieces
     }
 
-    /// How long a burst of losses is: mostly short, now and then round a wrap.
-    fn burst(&mut self) -> usize {
-        match self.random().below(40) {
-            0 => self.random().between(120, 132),
-            1 => self.random().between(248, 262),
-            2..=5 => self.random().between(5, 40),
-            _ => self.random().between(1, 4),
+    /// Whether what a sender of a kind sends next comes at once, and whether it
+    /// comes late.
+    fn passage(&mut self, kind: Kind) -> (bool, bool) {
+        let (loss_rate, late_rate) = (self.loss_rate, self.late_rate);
+        let mut left = self.losses[kind as usize];
+        if left == 0 && self.random().one_in(loss_rate) {
+            left = kind.burst(self.random());
         }
+        self.losses[kind as usize] = left.saturating_sub(1);
+        if left > 0 {
+            return (false, false);
+        }
+        let late = self.random().one_in(late_rate);
+        (!late || self.random().one_in(3), late)
     }
 
-    /// Whether a payload of a type from its sender is lost.
-    fn lost(&mut self, payload_type: u8) -> bool {
-        let loss_rate = self.loss_rate;
-        let way = usize::from(payload_type == SIGNALLING);
-        if self.losses[way] == 0 && self.random().one_in(loss_rate) {
-            self.losses[way] = self.burst();
-        }
-        let lost = self.losses[way] > 0;
-        self.losses[way] = self.losses[way].saturating_sub(1);
-        lost
-    }
-
-    /// What a sender sent arrives or is lost, as told. In place of a lost one
-    /// other sub-channels go on at times.
-    fn arrive(&mut self, payload_type: u8, payload: Option<Vec<u8>>, arrives: bool) {
-        match payload {
-            Some(payload) if arrives => self.put(payload_type, payload),
-            Some(_) if self.random().one_in(20) => self.other_sub_channels(),
+    /// What a sender sent comes at once, late, or both, as told, and behind it
+    /// what comes late now. In place of a lost one other sub-channels go on at
+    /// times.
+    fn arrive(&mut self, kind: Kind, payload: Option<Vec<u8>>, passage: (bool, bool)) {
+        let payload = match payload {
+            Some(payload) => payload,
+            None => return,
+        };
+        let due = self.ways[kind as usize].sent(&payload);
+        match passage {
+            (_, true) => {
+                let after = kind.lateness(self.random());
+                self.ways[kind as usize].keep_back(after, 1, payload.clone());
+            }
+            (false, _) if self.random().one_in(20) => self.other_sub_channels(),
             _ => {}
         }
+        if passage.0 {
+            self.put(type_of(kind), payload);
+        }
+        for (_, payload) in due {
+            self.put(type_of(kind), payload);
+        }
+    }
+
+    /// So many payloads of a kind are sent and lost; what comes late comes.
+    fn lose(&mut self, kind: Kind, payloads: usize) {
+        for _ in 0..payloads {
+            let due = match self.next_sent(kind) {
+                Some(payload) => self.ways[kind as usize].sent(&payload),
+                None => continue,
+            };
+            for (_, payload) in due {
+                self.put(type_of(kind), payload);
+            }
+        }
+    }
+
+    /// What a sender gives for a period that it sends: a tone, mostly the same,
+    /// or samples that change.
+    fn next_sent(&mut self, kind: Kind) -> Option<Vec<u8>> {
+        match kind {
+            Kind::Digits => {
+                let change = self.random().one_in(6);
+                let code = match change {
+                    true => self.random().small(0, 15),
+                    false => self.sounding.unwrap_or(5),
+                };
+                self.digit(Some(code))
+            }
+            Kind::Signalling => {
+                let samples = self.changing();
+                self.period(samples)
+            }
+        }
+    }
+
+    /// A period is sent and its payload comes.
+    fn send(&mut self, kind: Kind) {
+        let payload = self.next_sent(kind);
+        self.arrive(kind, payload, (true, false));
+    }
+
+    /// Where the trunk takes all that is sent as older, so many are lost at times
+    /// that the next one is fresh.
+    fn mend(&mut self) {
+        for kind in Kind::BOTH {
+            let last = self.last(kind);
+            if self.ways[kind as usize].astray(last) && self.random().one_in(3) {
+                // The number before it has the step 0, so this one has 1.
+                let step = self.ways[kind as usize].next_step(last).unwrap_or(0);
+                self.lose(kind, kind.round() + 1 - step);
+            }
+        }
+    }
+
+    /// Payloads that were sent before come late, again, and in any order.
+    fn late(&mut self, kind: Kind) {
+        self.flush();
+        let last = self.last(kind);
+        let way = &self.ways[kind as usize];
+        for payload in way.some_late(&mut self.frames.random, last) {
+            self.put(type_of(kind), payload);
+        }
+    }
+
+    /// Frames swapped: one to three payloads come behind the one after them, in
+    /// any order, perhaps one twice and one not.
+    fn swap(&mut self, kind: Kind) {
+        let held = self.random().between(1, 3);
+        self.send(kind);
+        self.lose(kind, held);
+        self.send(kind);
+        for _ in 0..held {
+            let back = self.random().between(1, held);
+            if let Some(payload) = self.ways[kind as usize].before_newest(back) {
+                self.put(type_of(kind), payload);
+            }
+        }
+        self.send(kind);
     }
 
     /// What the digit sender gives for a period of a state.
@@ -254,8 +398,8 @@ impl Generator {
     fn digits(&mut self, periods: usize, state: Option<u8>) {
         for _ in 0..periods {
             let payload = self.digit(state);
-            let arrives = !self.lost(DIGITS);
-            self.arrive(DIGITS, payload, arrives);
+            let passage = self.passage(Kind::Digits);
+            self.arrive(Kind::Digits, payload, passage);
         }
     }
 
@@ -277,24 +421,14 @@ impl Generator {
 
     /// An exact step between two digits payloads; something else in between.
     fn digit_gap(&mut self) {
-        let steps = [
-            1, 2, 3, 4, 5, 6, 9, 40, 252, 253, 254, 255, 256, 257, 258, 512,
-        ];
-        let step = self.random().pick(&steps);
+        let step = Kind::Digits.gap(self.random());
         let code = self.random().small(0, 15);
         let first = self.digit(Some(code));
-        self.arrive(DIGITS, first, true);
+        self.arrive(Kind::Digits, first, (true, false));
         self.between();
-        for _ in 1..step {
-            let change = self.random().one_in(6);
-            let code = match change {
-                true => self.random().small(0, 15),
-                false => self.sounding.unwrap_or(5),
-            };
-            drop(self.digit(Some(code)));
-        }
+        self.lose(Kind::Digits, step - 1);
         let next = self.digit(Some(9));
-        self.arrive(DIGITS, next, true);
+        self.arrive(Kind::Digits, next, (true, false));
         self.digits(3, None);
     }
 
@@ -320,8 +454,10 @@ impl Generator {
     /// A period whose payload arrives or is lost.
     fn send_period(&mut self, samples: Samples) {
         let payload = self.period(samples);
-        let arrives = payload.is_some() && !self.lost(SIGNALLING);
-        self.arrive(SIGNALLING, payload, arrives);
+        if payload.is_some() {
+            let passage = self.passage(Kind::Signalling);
+            self.arrive(Kind::Signalling, payload, passage);
+        }
     }
 
     /// Ten samples that are not quiet.
@@ -373,15 +509,10 @@ impl Generator {
 
     /// An exact step between two signalling payloads.
     fn signalling_gap(&mut self) {
-        let steps = [1, 2, 3, 4, 5, 7, 60, 124, 125, 126, 127, 128, 129, 130, 256];
-        let step = self.random().pick(&steps);
-        for place in 0..=step {
-            let samples = self.changing();
-            let payload = self.period(samples);
-            if place == 0 || place == step {
-                self.arrive(SIGNALLING, payload, true);
-            }
-        }
+        let step = Kind::Signalling.gap(self.random());
+        self.send(Kind::Signalling);
+        self.lose(Kind::Signalling, step - 1);
+        self.send(Kind::Signalling);
     }
 
     /// A fax call, payload by payload; now and then something in between.
@@ -476,12 +607,19 @@ impl Generator {
         self.put(payload_type, payload);
     }
 
-    /// Digits and signalling payloads of other senders: any number.
+    /// Digits and signalling payloads of other senders: any number, or one at a
+    /// step from that of the trunk.
     fn elsewhere(&mut self) {
+        self.flush();
         for _ in 0..self.random().between(1, 3) {
-            let payload_type = self.random().small(DIGITS, SIGNALLING);
+            let kind = self.random().pick(&Kind::BOTH);
             let followed = self.followed;
-            let payload = Drawer::new(self.random(), false).payload(&followed, payload_type);
+            let payload_type = type_of(kind);
+            let mut payload = Drawer::new(self.random(), false).payload(&followed, payload_type);
+            if let (Some(last), false) = (self.last(kind), self.random().one_in(3)) {
+                let number = kind.number_about(self.random(), last);
+                kind.set_number(&mut payload, number);
+            }
             self.put(payload_type, payload);
         }
     }
@@ -493,15 +631,15 @@ impl Generator {
         let mut pieces = Vec::new();
         for _ in 0..self.random().between(2, 20) {
             let cid = self.followed.cid;
-            let (payload_type, payload) = self.crowd_payload();
-            let piece = Piece {
-                cid,
-                payload_type,
-                payload,
-                long: false,
-            };
-            if piece.payload.len() <= 255 {
-                pieces.push(piece);
+            for (payload_type, payload) in self.crowd_payloads() {
+                if payload.len() <= 255 {
+                    pieces.push(Piece {
+                        cid,
+                        payload_type,
+                        payload,
+                        long: false,
+                    });
+                }
             }
         }
         let again = self.random().below(3);
@@ -515,29 +653,35 @@ impl Generator {
         self.flush();
     }
 
-    /// A payload of the followed sub-channel: its next digits or signalling, or
-    /// any that is accepted.
-    fn crowd_payload(&mut self) -> (u8, Vec<u8>) {
+    /// A payload of the followed sub-channel: its next digits or signalling, what
+    /// comes late behind it, one that was sent before, or any that is accepted.
+    fn crowd_payloads(&mut self) -> Vec<(u8, Vec<u8>)> {
         let followed = self.followed;
+        let kind = self.random().pick(&Kind::BOTH);
         match self.random().below(6) {
-            0 | 1 => {
-                let code = self.random().small(0, 15);
-                let payload = self.digit(Some(code));
-                (DIGITS, payload.unwrap_or_default())
+            0..=2 => {
+                let payload = match self.next_sent(kind) {
+                    Some(payload) => payload,
+                    None => return Vec::new(),
+                };
+                let due = self.ways[kind as usize].sent(&payload);
+                let mut payloads = vec![(type_of(kind), payload)];
+                payloads.extend(due.into_iter().map(|it| (type_of(kind), it.1)));
+                payloads
             }
-            2 | 3 => {
-                let samples = self.changing();
-                let payload = self.period(samples);
-                (SIGNALLING, payload.unwrap_or_default())
+            3 => {
+                let back = self.random().below(12);
+                let payload = self.ways[kind as usize].before_newest(back);
+                payload.into_iter().map(|it| (type_of(kind), it)).collect()
             }
-            4 => (
+            4 => vec![(
                 SID,
                 Drawer::new(self.random(), false).payload(&followed, SID),
-            ),
-            _ => (
+            )],
+            _ => vec![(
                 PRIMARY,
                 Drawer::new(self.random(), false).payload(&followed, PRIMARY),
-            ),
+            )],
         }
     }
 
@@ -547,7 +691,7 @@ impl Generator {
         let pieces: Vec<Piece> = (0..self.random().between(1, 3))
             .map(|_| self.other_piece())
             .collect();
-        self.lines.push(line_of(&field_of(&pieces)));
+        self.push(line_of(&field_of(&pieces)));
     }
 
     /// Senders that start anew while the trunk goes on.
@@ -556,10 +700,12 @@ impl Generator {
         match SignallingSender::new(value) {
             Ok(sender) if self.random().one_in(2) => {
                 self.signalling_sender = sender;
+                self.ways[Kind::Signalling as usize].anew();
                 self.sample = value;
             }
             _ => {
                 self.digit_sender = DigitSender::new();
+                self.ways[Kind::Digits as usize].anew();
                 self.sounding = None;
             }
         }
@@ -575,7 +721,7 @@ impl Generator {
                 1 => self.frames.malformed_line(),
                 _ => self.frames.line(),
             };
-            self.lines.push(line);
+            self.push(line);
         }
     }
 }
@@ -657,7 +803,7 @@ mod tests {
             }
         }
         let numbers: Vec<u64> = seen.keys().copied().collect();
-        let wanted = [0, 1, 2, 3, 4, 5, 6, 7, 8, 9, 12, 13, 14, 15, 16, 41, 42];
+        let wanted = [0, 1, 2, 3, 4, 5, 6, 7, 8, 9, 12, 13, 14, 15, 16, 19, 41, 42];
         assert_eq!(numbers, wanted);
         for (number, count) in seen {
             assert!(count >= 20, "refusal {number} only {count} times");
@@ -710,8 +856,8 @@ mod tests {
                 reached(syntax, seq, 1, &[12]);
                 reached(syntax, seq, 2, &[12]);
             } else {
-                reached(syntax, seq, 1, &[0, 13, 14, 15]);
-                reached(syntax, seq, 2, &[0, 13]);
+                reached(syntax, seq, 1, &[0, 13, 14, 15, 19]);
+                reached(syntax, seq, 2, &[0, 13, 19]);
             }
             if syntax.is_voice() {
                 reached(syntax, seq, 3, &[0, 13, 14, 41, 42]);
@@ -746,20 +892,30 @@ mod tests {
     #[test]
     fn every_kind_of_step_is_reached() {
         let [digits, signalling] = by_kind(30, 3000);
-        for (output, round) in [(&digits, 256), (&signalling, 128)] {
+        for (output, farthest) in [(&digits, 127), (&signalling, 63)] {
             let carried = numbers(output, "carried=");
             assert_eq!(carried, BTreeSet::from([0, 1, 2, 3]));
             let filled = numbers(output, "filled=");
-            let mut wanted = vec![0, 1, 2, 3, 6];
-            wanted.extend(round - 7..round - 3);
-            for fill in wanted {
-                assert!(filled.contains(&fill), "no fill of {fill} in {round}");
+            for fill in [0, 1, 2, 3, 6, farthest - 4, farthest - 3] {
+                assert!(filled.contains(&fill), "no fill of {fill} in {farthest}");
             }
-            assert_eq!(*filled.iter().next_back().unwrap(), round - 4);
+            assert_eq!(*filled.iter().next_back().unwrap(), farthest - 3);
         }
         assert_eq!(numbers(&signalling, "alarm="), BTreeSet::from([0, 1]));
         let values = numbers(&signalling, "value=");
         assert_eq!(values, (0..16).collect());
+    }
+
+    #[test]
+    fn a_good_share_is_older_and_a_good_share_is_replayed_of_both_kinds() {
+        for output in by_kind(20, 1000) {
+            let count = |line: &str| output.lines().filter(|it| *it == line).count();
+            let (older, replayed) = (count("answer=19"), count("carried=3") + count("carried=1"));
+            assert!(
+                older * 8 > replayed && older < replayed,
+                "{older} {replayed}"
+            );
+        }
     }
 
     #[test]
@@ -804,7 +960,7 @@ mod tests {
     }
 
     #[test]
-    fn the_stored_run_shows_fax_beside_digits_and_signalling() {
+    fn the_stored_run_shows_fax_beside_late_digits_and_signalling() {
         let input = generated(7, 400);
         let followed_first = Generator::new(7).unwrap().followed;
         assert!(followed_first.syntax.is_voice());
@@ -813,8 +969,8 @@ mod tests {
             assert!(output.contains(&format!("\ndid={did}\n")), "{did}");
         }
         for line in [
-            "type=1",
-            "type=2",
+            "type=1\nlen=8\nanswer=19",
+            "type=2\nlen=16\nanswer=19",
             "type=3",
             "gap=1",
             "answer=41",
@@ -828,10 +984,9 @@ mod tests {
     fn fax_calls_on_other_sub_channels_are_there_too() {
         let mut generator = Generator::new(7).unwrap();
         let followed = generator.followed.cid;
-        let table = crate::provisioning::Table::of(&generator.frames.records);
         for _ in 0..500 {
             let piece = generator.other_fax_piece().unwrap();
-            let record = table.record(piece.cid).unwrap();
+            let record = generator.table.record(piece.cid).unwrap();
             assert!(piece.cid != followed && piece.payload_type == fax_type(record.syntax));
         }
     }

@@ -5,6 +5,7 @@ pub mod fax;
 pub mod fax_calls;
 pub mod follow;
 pub mod frames;
+pub mod late;
 pub mod list;
 pub mod payloads;
 pub mod records;

@@ -1,41 +1,54 @@
 //! `generate trial SEED COUNT`: COUNT lines for the trial program.
 
+use super::late::{Kind, Way};
 use super::payloads::Drawer;
 use super::{print_lines, Random};
 use crate::hex;
 use crate::provisioning::{Record, Syntax};
+use crate::receivers::{DigitReceiver, SignallingReceiver};
+use crate::refusal::Refusal;
+use crate::senders::{DigitEntry, DigitSender, Samples, SignallingSender};
 use std::io::{self, Write};
 
 /// Prints the input of a seed.
 pub fn run(seed: u64, count: u64, mut output: impl Write) -> io::Result<()> {
-    let mut generator = Generator::new(seed);
+    let mut generator = Generator::new(seed)
+        .map_err(|number| io::Error::new(io::ErrorKind::Other, format!("refusal {number}")))?;
     let lf_missing_at_end = generator.lf_missing_at_end;
+    generator.opening();
     print_lines(&mut output, count, lf_missing_at_end, || {
+        let lines = generator.lines.split_off(0);
         generator.scene();
-        generator.lines.split_off(0)
+        lines
     })
 }
 
-/// How a way loses payloads: for each receiver, how many it still loses.
-#[derive(Clone, Debug, Default)]
-struct Loss {
-    left: [usize; 2],
-}
-
-/// Makes the lines of one seed.
+/// Makes the lines of one seed. It runs the senders and receivers of the trial
+/// program itself, so that it has the octets that were sent, to hand them over
+/// late, and the number that each receiver stands at.
 struct Generator {
     random: Random,
     /// The lines of the scene, without their LFs.
     lines: Vec<Vec<u8>>,
     /// In some seeds the second receiver gets at least what the first gets.
     second_gets_all: bool,
-    /// In some of those nothing sound comes from elsewhere and no gap goes round
-    /// its count, so that the two records can be compared period by period.
+    /// In some of those demand 3 holds: nothing sound comes from elsewhere,
+    /// successive fresh arrivals are at most 127 and 63 apart, older ones at most
+    /// 128 and 64 behind, and the second receiver's fresh ones include the
+    /// first's. So the two records can be compared period by period.
     calm: bool,
     /// One payload in so many starts a burst of losses.
     loss_rate: usize,
-    digit_loss: Loss,
-    signalling_loss: Loss,
+    /// One payload in so many is kept back, or comes again.
+    late_rate: usize,
+    /// Of digits and of signalling, how many each receiver still loses.
+    losses: [[usize; 2]; 2],
+    /// The way of digits and that of signalling.
+    ways: [Way; 2],
+    digit_sender: DigitSender,
+    signalling_sender: SignallingSender,
+    digit_receivers: [DigitReceiver; 2],
+    signalling_receivers: [SignallingReceiver; 2],
     /// The state of the digit sender: on with a code, or off.
     sounding: Option<u8>,
     /// The last sample of the signalling sender.
@@ -43,40 +56,78 @@ struct Generator {
     lf_missing_at_end: bool,
 }
 
+/// The key of the lines that hand over payloads of a kind.
+fn key(kind: Kind) -> &'static str {
+    match kind {
+        Kind::Digits => "digits",
+        Kind::Signalling => "signalling",
+    }
+}
+
+/// The receivers, 0 or 1, that *who* names.
+fn named(who: u8) -> impl Iterator<Item = usize> {
+    (0..2).filter(move |receiver| who >> receiver & 1 == 1)
+}
+
 impl Generator {
     /// The generator of a seed.
-    fn new(seed: u64) -> Self {
+    fn new(seed: u64) -> Result<Self, Refusal> {
         let mut random = Random::new(seed);
         let loss_rate = random.pick(&[2, 4, 8, 20, 1000]);
-        Generator {
+        let late_rate = random.pick(&[3, 4, 6, 12, 40]);
+        Ok(Generator {
             random,
             lines: Vec::new(),
             second_gets_all: seed % 2 == 1,
             calm: seed % 4 == 1,
             loss_rate,
-            digit_loss: Loss::default(),
-            signalling_loss: Loss::default(),
+            late_rate,
+            losses: [[0; 2]; 2],
+            ways: Kind::BOTH.map(Way::new),
+            digit_sender: DigitSender::new(),
+            signalling_sender: SignallingSender::new(0)?,
+            digit_receivers: Default::default(),
+            signalling_receivers: Default::default(),
             sounding: None,
             sample: 0,
             lf_missing_at_end: seed % 4 == 3,
+        })
+    }
+
+    /// The first scene: both kinds are sent and come late, so that a short input
+    /// has that too.
+    fn opening(&mut self) {
+        self.dial();
+        self.seizure();
+        for kind in Kind::BOTH {
+            self.swap(kind);
+            self.late(kind);
+        }
+        if !self.calm {
+            self.payloads_from_elsewhere();
         }
     }
 
     /// One scene: some lines that belong together.
     fn scene(&mut self) {
+        self.mend();
         match self.random.below(100) {
-            0..=22 => self.dial(),
-            23..=26 => self.silence(),
-            27..=31 => self.digit_gap(),
-            32..=48 => self.seizure(),
-            49..=53 => self.signalling_gap(),
-            54..=56 => self.quiet_run(),
-            57..=63 => self.bad_entries(),
-            64..=81 if self.calm => self.dial(),
-            64..=68 => self.restart(),
-            69..=81 => self.payloads_from_elsewhere(),
-            82..=89 => self.voice(),
-            90..=93 => self.fresh(),
+            0..=20 => self.dial(),
+            21..=23 => self.silence(),
+            24..=28 => self.digit_gap(),
+            29..=43 => self.seizure(),
+            44..=48 => self.signalling_gap(),
+            49..=51 => self.quiet_run(),
+            52..=56 => self.bad_entries(),
+            57..=60 => self.late(Kind::Digits),
+            61..=64 => self.late(Kind::Signalling),
+            65..=67 => self.swap(Kind::Digits),
+            68..=70 => self.swap(Kind::Signalling),
+            71..=83 if self.calm => self.dial(),
+            71..=74 => self.restart(),
+            75..=83 => self.payloads_from_elsewhere(),
+            84..=88 => self.voice(),
+            89..=92 => self.fresh(),
             _ => self.malformed(),
         }
     }
@@ -87,50 +138,177 @@ impl Generator {
         self.lines.push(line.into_bytes());
     }
 
-    /// How long a burst of losses is: mostly short, now and then round a wrap.
-    fn burst(&mut self) -> usize {
-        match self.random.below(40) {
-            0 if !self.calm => self.random.between(120, 132),
-            1 if !self.calm => self.random.between(248, 262),
-            2..=5 => self.random.between(5, 40),
-            _ => self.random.between(1, 4),
+    /// The number that a receiver of a kind stands at, if it has taken one.
+    fn last(&self, kind: Kind, receiver: usize) -> Option<u8> {
+        match kind {
+            Kind::Digits => self.digit_receivers[receiver].last_sequence(),
+            Kind::Signalling => self.signalling_receivers[receiver].last_sequence(),
+        }
+    }
+
+    /// A payload comes to the receivers, refused or not.
+    fn hear(&mut self, kind: Kind, who: u8, payload: &[u8]) {
+        for receiver in named(who) {
+            match kind {
+                Kind::Digits => drop(self.digit_receivers[receiver].accept(payload)),
+                Kind::Signalling => drop(self.signalling_receivers[receiver].accept(payload)),
+            }
+        }
+    }
+
+    /// Whether a receiver of a kind takes what is sent next as older.
+    fn astray(&self, kind: Kind, receiver: usize) -> bool {
+        let last = self.last(kind, receiver);
+        self.ways[kind as usize].astray(last)
+    }
+
+    /// Where receivers take all that is sent as older, they are fresh at times.
+    fn mend(&mut self) {
+        for kind in Kind::BOTH {
+            for receiver in 0..2 {
+                if self.astray(kind, receiver) && self.random.one_in(4) {
+                    let both = self.second_gets_all;
+                    self.fresh_for(if both { 3 } else { 1 << receiver });
+                }
+            }
         }
     }
 
     /// Whether a receiver loses this payload.
-    fn loses(&mut self, left: &mut usize) -> bool {
-        if *left == 0 && self.random.one_in(self.loss_rate) {
-            *left = self.burst();
+    fn loses(&mut self, kind: Kind, receiver: usize) -> bool {
+        let mut left = self.losses[kind as usize][receiver];
+        if left == 0 && self.random.one_in(self.loss_rate) {
+            left = match self.calm {
+                true => self.random.pick(&[1, 1, 2, 2, 3, 4, 6, 9]),
+                false => kind.burst(&mut self.random),
+            };
         }
-        let loses = *left > 0;
-        *left = left.saturating_sub(1);
-        loses
+        self.losses[kind as usize][receiver] = left.saturating_sub(1);
+        left > 0
     }
 
-    /// Who gets this payload, by the losses of its way.
-    fn who_by_loss(&mut self, mut loss: Loss) -> (u8, Loss) {
-        let first = !self.loses(&mut loss.left[0]);
-        let mut second = !self.loses(&mut loss.left[1]);
+    /// Who gets the next payload of a kind at once, and who late (and perhaps
+    /// again).
+    fn passage(&mut self, kind: Kind) -> (u8, u8) {
+        let first = !self.loses(kind, 0);
+        let mut second = !self.loses(kind, 1);
         if self.second_gets_all && first {
             second = true;
         }
-        (u8::from(first) + 2 * u8::from(second), loss)
+        let who = u8::from(first) + 2 * u8::from(second);
+        if self.calm && (0..2).any(|receiver| self.must_hear(kind, receiver)) {
+            return (3, 0);
+        }
+        if !self.random.one_in(self.late_rate) {
+            return (who, 0);
+        }
+        let late = match self.second_gets_all {
+            true => who,
+            false => who & self.random.pick(&[1, 2, 3, 3]),
+        };
+        match self.random.one_in(3) {
+            true => (who, late),
+            false => (who & !late, late),
+        }
     }
 
-    /// Who gets this digits payload.
-    fn digit_who(&mut self) -> u8 {
-        let loss = self.digit_loss.clone();
-        let (who, loss) = self.who_by_loss(loss);
-        self.digit_loss = loss;
-        who
+    /// Whether the payload after the next one would be too far ahead for a
+    /// receiver that does not get the next one.
+    fn must_hear(&self, kind: Kind, receiver: usize) -> bool {
+        let last = self.last(kind, receiver);
+        let step = self.ways[kind as usize].next_step(last);
+        step.map_or(false, |step| step >= kind.half() - 1)
     }
 
-    /// Who gets this signalling payload.
-    fn signalling_who(&mut self) -> u8 {
-        let loss = self.signalling_loss.clone();
-        let (who, loss) = self.who_by_loss(loss);
-        self.signalling_loss = loss;
-        who
+    /// A payload was sent and came to those who get it at once. It comes late to
+    /// others; what comes late behind it comes now.
+    fn sent(&mut self, kind: Kind, (at_once, late): (u8, u8), payload: &[u8]) {
+        self.hear(kind, at_once, payload);
+        for (who, payload) in self.ways[kind as usize].sent(payload) {
+            self.hand_over(kind, who, &payload);
+        }
+        if late > 0 {
+            let after = kind.lateness(&mut self.random);
+            self.ways[kind as usize].keep_back(after, late, payload.to_vec());
+        }
+    }
+
+    /// A payload comes by a line of its own. In a calm seed it was sent before.
+    fn hand_over(&mut self, kind: Kind, mut who: u8, payload: &[u8]) {
+        if self.calm {
+            who = self.within_bounds(kind, who, payload);
+        }
+        let mut octets = vec![who];
+        octets.extend(payload);
+        self.push(key(kind), &octets);
+        self.hear(kind, who, payload);
+    }
+
+    /// Which of some receivers may get a payload that was sent before so that
+    /// demand 3 holds.
+    fn within_bounds(&self, kind: Kind, who: u8, payload: &[u8]) -> u8 {
+        let newest = kind.after(self.ways[kind as usize].next, kind.round() - 1);
+        let back = kind.step(kind.number(payload), newest);
+        // Whether it is fresh to a receiver, and whether it is within the bounds:
+        // not too far behind its last fresh one, nor a first one too far back.
+        let takes = |receiver| match self.last(kind, receiver) {
+            None => (true, back + 1 < kind.half()),
+            Some(last) => {
+                let stands = kind.step(last, newest);
+                (back <= stands, back.saturating_sub(stands) <= kind.half())
+            }
+        };
+        let (first, second) = (takes(0), takes(1));
+        if !second.1 {
+            0
+        } else if !first.1 || first.0 && !second.0 {
+            who & 2
+        } else {
+            who
+        }
+    }
+
+    /// Payloads that were sent before come late, again, and in any order.
+    fn late(&mut self, kind: Kind) {
+        let receiver = self.random.below(2);
+        let last = self.last(kind, receiver);
+        let way = &self.ways[kind as usize];
+        for payload in way.some_late(&mut self.random, last) {
+            let who = self.any_who();
+            self.hand_over(kind, who, &payload);
+        }
+    }
+
+    /// A period that is sent and comes to these receivers.
+    fn send_to(&mut self, kind: Kind, who: u8) {
+        match kind {
+            Kind::Digits => {
+                let code = self.random.small(0, 15);
+                self.digit((who, 0), Some(code));
+            }
+            Kind::Signalling => {
+                let samples = self.changing();
+                self.period((who, 0), samples);
+            }
+        }
+    }
+
+    /// Frames swapped: one to three payloads come behind the one after them, in
+    /// any order, perhaps one twice and one not.
+    fn swap(&mut self, kind: Kind) {
+        let held = self.random.between(1, 3);
+        self.send_to(kind, 3);
+        for _ in 0..held {
+            self.send_to(kind, 0);
+        }
+        self.send_to(kind, 3);
+        for _ in 0..held {
+            let back = self.random.between(1, held);
+            if let Some(payload) = self.ways[kind as usize].before_newest(back) {
+                self.hand_over(kind, 3, &payload);
+            }
+        }
+        self.send_to(kind, 3);
     }
 
     /// Any who that the seed allows.
@@ -147,8 +325,8 @@ impl Generator {
             .pick(&[-3, -7, -10, -20, -31, -30, -1, 0, 1, 3, 127])
     }
 
-    /// An entry of the digit sender that it takes.
-    fn digit(&mut self, who: u8, state: Option<u8>) {
+    /// An entry of the digit sender that it takes: whether it is sent.
+    fn digit(&mut self, passage: (u8, u8), state: Option<u8>) -> bool {
         let change = state != self.sounding;
         let edge = match change {
             true => self.random.pick(&[0, 0, 1, 5, 10, 18, 19]),
@@ -158,16 +336,27 @@ impl Generator {
         // The code of an off entry is not looked at.
         let off_code = self.random.pick(&[0, 0, 0, 7, 16, 255]);
         let code = state.unwrap_or(off_code);
-        let on = u8::from(state.is_some());
-        self.push("digit", &[who, on, code, edge, level as u8]);
+        let on = state.is_some();
+        self.push("digit", &[passage.0, on.into(), code, edge, level as u8]);
         self.sounding = state;
+        let entry = DigitEntry {
+            on,
+            code,
+            edge,
+            level,
+        };
+        match self.digit_sender.enter(&entry) {
+            Ok(Some(payload)) => self.sent(Kind::Digits, passage, &payload),
+            _ => return false,
+        }
+        true
     }
 
     /// So many entries of one state.
     fn digits(&mut self, periods: usize, state: Option<u8>) {
         for _ in 0..periods {
-            let who = self.digit_who();
-            self.digit(who, state);
+            let passage = self.passage(Kind::Digits);
+            self.digit(passage, state);
         }
     }
 
@@ -193,16 +382,24 @@ impl Generator {
         self.digits(periods, None);
     }
 
+    /// A step to the next arrival.
+    fn gap(&mut self, kind: Kind) -> usize {
+        match self.calm {
+            true => kind.near_gap(&mut self.random),
+            false => kind.gap(&mut self.random),
+        }
+    }
+
     /// An exact step for both receivers, voice in the gap at times.
     fn digit_gap(&mut self) {
         let state = match self.random.one_in(4) {
             true => None,
             false => Some(self.random.small(0, 15)),
         };
-        self.digit(3, state);
-        let steps = [1, 2, 3, 4, 5, 6, 9, 252, 253, 254, 255, 256, 257, 258, 512];
-        let few = if self.calm { 7 } else { steps.len() };
-        let step = self.random.pick(&steps[..few]);
+        if !self.digit((3, 0), state) {
+            return;
+        }
+        let step = self.gap(Kind::Digits);
         let voice_at = self.random.below(2 * step);
         for lost in 1..step {
             if lost == voice_at {
@@ -212,24 +409,33 @@ impl Generator {
                 true => self.random.small(0, 15),
                 false => self.sounding.unwrap_or(5),
             };
-            self.digit(0, Some(code));
+            self.digit((0, 0), Some(code));
         }
-        self.digit(3, Some(9));
+        self.digit((3, 0), Some(9));
         self.digits(3, None);
     }
 
     /// An entry of the signalling sender that it takes.
-    fn period(&mut self, who: u8, samples: [u8; 10]) {
-        let alarm = u8::from(self.random.one_in(8));
-        let mut octets = vec![who, alarm];
+    fn period(&mut self, passage: (u8, u8), samples: Samples) {
+        let alarm = self.random.one_in(8);
+        let mut octets = vec![passage.0, alarm.into()];
         octets.extend(samples);
         self.push("samples", &octets);
         self.sample = samples[9];
+        if let Ok(Some(payload)) = self.signalling_sender.enter(&samples, alarm) {
+            self.sent(Kind::Signalling, passage, &payload);
+        }
+    }
+
+    /// An entry whose payload arrives, is lost or comes late.
+    fn send_period(&mut self, samples: Samples) {
+        let passage = self.passage(Kind::Signalling);
+        self.period(passage, samples);
     }
 
     /// Ten samples of a kind: all any, one edge, a quiet period, or one sample
     /// off from quiet.
-    fn samples(&mut self) -> [u8; 10] {
+    fn samples(&mut self) -> Samples {
         let mut samples = [self.sample; 10];
         let other = self.random.small(0, 15);
         match self.random.below(6) {
@@ -249,8 +455,7 @@ impl Generator {
     fn seizure(&mut self) {
         for _ in 0..self.random.between(1, 12) {
             let samples = self.samples();
-            let who = self.signalling_who();
-            self.period(who, samples);
+            self.send_period(samples);
             if self.random.one_in(4) {
                 let periods = self.random.between(1, 30);
                 self.quiet(periods);
@@ -261,8 +466,7 @@ impl Generator {
     /// So many quiet periods.
     fn quiet(&mut self, periods: usize) {
         for _ in 0..periods {
-            let who = self.signalling_who();
-            self.period(who, [self.sample; 10]);
+            self.send_period([self.sample; 10]);
         }
     }
 
@@ -279,23 +483,25 @@ impl Generator {
         self.quiet(periods);
         if self.random.one_in(2) {
             let samples = self.samples();
-            let who = self.any_who();
-            self.period(who, samples);
+            self.send_period(samples);
         }
     }
 
     /// An exact step for both receivers.
     fn signalling_gap(&mut self) {
-        let steps = [1, 2, 3, 4, 5, 7, 124, 125, 126, 127, 128, 129, 130, 256];
-        let few = if self.calm { 6 } else { steps.len() };
-        let step = self.random.pick(&steps[..few]);
+        let step = self.gap(Kind::Signalling);
         for place in 0..=step {
             let who = if place == 0 || place == step { 3 } else { 0 };
-            // Every period changes, so every one is sent.
-            let mut samples = [self.sample; 10];
-            samples[self.random.below(10)] ^= self.random.small(1, 15);
-            self.period(who, samples);
+            let samples = self.changing();
+            self.period((who, 0), samples);
         }
+    }
+
+    /// Ten samples that change, so that their period is sent.
+    fn changing(&mut self) -> Samples {
+        let mut samples = [self.sample; 10];
+        samples[self.random.below(10)] ^= self.random.small(1, 15);
+        samples
     }
 
     /// Entries out of range (15) and edges without a change (17).
@@ -359,6 +565,10 @@ impl Generator {
         }
         let value = self.random.small(0, 15);
         self.push("start", &[value]);
+        if let Ok(sender) = SignallingSender::new(value) {
+            self.signalling_sender = sender;
+        }
+        self.ways[Kind::Signalling as usize].anew();
         self.sample = value;
         if self.random.one_in(2) {
             let periods = self.random.between(1, 40);
@@ -366,12 +576,15 @@ impl Generator {
         }
     }
 
-    /// Payloads made outside: sound ones with any sequence, damaged ones.
+    /// Payloads made outside: sound ones and damaged ones, with any sequence or
+    /// with one at a step from that of a receiver.
     fn payloads_from_elsewhere(&mut self) {
         for _ in 0..self.random.between(1, 6) {
             let who = self.any_who();
             let spoil = self.random.one_in(2);
-            let (key, payload_type) = self.random.pick(&[("digits", 1), ("signalling", 2)]);
+            let (kind, payload_type) = self
+                .random
+                .pick(&[(Kind::Digits, 1), (Kind::Signalling, 2)]);
             let record = Record {
                 cid: 4,
                 syntax: Syntax::Acelp,
@@ -379,9 +592,13 @@ impl Generator {
                 seq: 0,
             };
             let mut drawer = Drawer::new(&mut self.random, spoil);
-            let mut octets = drawer.payload(&record, payload_type);
-            octets.insert(0, who);
-            self.push(key, &octets);
+            let mut payload = drawer.payload(&record, payload_type);
+            let last = self.last(kind, usize::from(who == 2));
+            if let (Some(last), false, 1..) = (last, self.random.one_in(4), payload.len()) {
+                let number = kind.number_about(&mut self.random, last);
+                kind.set_number(&mut payload, number);
+            }
+            self.hand_over(kind, who, &payload);
         }
     }
 
@@ -400,7 +617,16 @@ impl Generator {
             true => 3,
             false => self.any_who(),
         };
+        self.fresh_for(who);
+    }
+
+    /// These receivers anew, of both kinds.
+    fn fresh_for(&mut self, who: u8) {
         self.push("fresh", &[who]);
+        for receiver in named(who) {
+            self.digit_receivers[receiver] = DigitReceiver::new();
+            self.signalling_receivers[receiver] = SignallingReceiver::new();
+        }
     }
 
     /// A malformed line, or one at the limit of 4,000 characters.
@@ -517,13 +743,192 @@ mod tests {
             carried.extend(numbers(&output, "carried="));
         }
         let refusals: Vec<u64> = seen.keys().copied().collect();
-        assert_eq!(refusals, [13, 14, 15, 17]);
+        assert_eq!(refusals, [13, 14, 15, 17, 19]);
         assert!(seen.values().all(|count| *count >= 20), "{seen:?}");
         assert_eq!(carried, BTreeSet::from([0, 1, 2, 3]));
-        for fill in [0, 1, 2, 3, 4, 121, 122, 123, 124, 249, 250, 251, 252] {
+        for fill in [0, 1, 2, 3, 4, 59, 60, 123, 124] {
             assert!(filled.contains(&fill), "no fill of {fill}");
         }
-        assert!(*filled.iter().next_back().unwrap() == 252);
+        assert!(*filled.iter().next_back().unwrap() == 124);
+    }
+
+    /// What one receiver answers to one payload.
+    struct Answer {
+        kind: Kind,
+        receiver: usize,
+        /// What `digit=` or `samples=` sent, or what came by a line of its own.
+        payload: Vec<u8>,
+        /// The refusal, 0 for none.
+        number: u64,
+        filled: u64,
+        /// The carried periods in hex.
+        carried: Vec<String>,
+    }
+
+    /// What happens line by line.
+    enum Event {
+        /// A payload was sent.
+        Sent(Kind, Vec<u8>),
+        Answer(Answer),
+        /// These receivers anew.
+        Fresh(u8),
+    }
+
+    /// Goes through an input and what the trial program prints for it.
+    fn events(input: &[u8]) -> Vec<Event> {
+        let output = tried(input);
+        let mut output = output.lines().peekable();
+        let text = String::from_utf8_lossy(input).into_owned();
+        let mut events = Vec::new();
+        for (number, line) in text.split_terminator('\n').enumerate() {
+            if output.peek() == Some(&&format!("malformed={}", number + 1)[..]) {
+                output.next();
+                continue;
+            }
+            let (key, octets) = line.split_once('=').unwrap();
+            let octets = hex::read(octets.as_bytes()).unwrap();
+            let kind = match key {
+                "digit" | "digits" => Kind::Digits,
+                "samples" | "signalling" => Kind::Signalling,
+                "fresh" => {
+                    events.push(Event::Fresh(octets[0]));
+                    continue;
+                }
+                "start" => {
+                    output.next();
+                    continue;
+                }
+                _ => continue,
+            };
+            let mut payload = octets[1..].to_vec();
+            if let "digit" | "samples" = key {
+                match output.next().unwrap().strip_prefix("sent=") {
+                    Some(sent) => payload = hex::read(sent.as_bytes()).unwrap(),
+                    None => continue,
+                }
+                events.push(Event::Sent(kind, payload.clone()));
+            }
+            for receiver in named(octets[0]) {
+                let head = format!("receiver={}", receiver + 1);
+                assert_eq!(output.next(), Some(&head[..]), "line {}", number + 1);
+                let mut answer = Answer {
+                    kind,
+                    receiver,
+                    payload: payload.clone(),
+                    number: 0,
+                    filled: 0,
+                    carried: Vec::new(),
+                };
+                let mut value = |key: &str| {
+                    let line = output.next_if(|line| line.starts_with(key))?;
+                    Some(line[key.len()..].to_string())
+                };
+                match value("refused=") {
+                    Some(number) => answer.number = number.parse().unwrap(),
+                    None => {
+                        answer.filled = value("filled=").unwrap().parse().unwrap();
+                        value("with=").unwrap();
+                        let carried: usize = value("carried=").unwrap().parse().unwrap();
+                        answer
+                            .carried
+                            .extend(std::iter::from_fn(|| value("period=")));
+                        assert_eq!(answer.carried.len(), carried);
+                        assert_eq!(value("value=").is_some(), kind == Kind::Signalling);
+                        assert_eq!(value("alarm=").is_some(), kind == Kind::Signalling);
+                    }
+                }
+                events.push(Event::Answer(answer));
+            }
+        }
+        assert_eq!(output.next(), None);
+        events
+    }
+
+    /// The answers of an input.
+    fn answers(input: &[u8]) -> Vec<Answer> {
+        let answer = |event| match event {
+            Event::Answer(answer) => Some(answer),
+            _ => None,
+        };
+        events(input).into_iter().filter_map(answer).collect()
+    }
+
+    #[test]
+    fn a_good_share_is_older_and_a_good_share_is_replayed_of_both_kinds() {
+        for kind in Kind::BOTH {
+            let mut counts: BTreeMap<u64, usize> = BTreeMap::new();
+            let mut fills: BTreeMap<u64, usize> = BTreeMap::new();
+            for seed in 0..20 {
+                let answers = answers(&generated(seed, 2000));
+                for answer in answers.iter().filter(|it| it.kind == kind) {
+                    *counts.entry(answer.number).or_insert(0) += 1;
+                    *fills.entry(answer.filled).or_insert(0) += 1;
+                }
+            }
+            let all: usize = counts.values().sum();
+            assert!(counts[&19] * 8 > all, "{kind:?}: {counts:?}");
+            assert!(counts[&0] * 2 > all, "{kind:?}: {counts:?}");
+            let farthest = kind.half() as u64 - 4;
+            assert_eq!(fills.keys().next_back(), Some(&farthest));
+            for fill in [0, 1, 2, 3, 4, farthest - 1, farthest] {
+                assert!(fills[&fill] >= 10, "{kind:?}: {fill} {fills:?}");
+            }
+        }
+    }
+
+    #[test]
+    fn payloads_of_the_sender_come_late_and_about_the_bounds() {
+        for kind in Kind::BOTH {
+            let (half, round) = (kind.half(), kind.round());
+            // Late by how many payloads; and how far ahead the next one is that
+            // comes as soon as it is sent.
+            let (mut late, mut ahead) = (BTreeSet::new(), BTreeSet::new());
+            for seed in 0..20 {
+                let mut sent: Vec<Vec<u8>> = Vec::new();
+                let mut arrived = [None; 2];
+                for event in events(&generated(seed, 10_000)) {
+                    match event {
+                        Event::Sent(of, payload) if of == kind => sent.push(payload),
+                        Event::Fresh(who) => named(who).for_each(|it| arrived[it] = None),
+                        Event::Answer(answer) if answer.kind == kind => {
+                            let place = sent.iter().rev().position(|it| *it == answer.payload);
+                            let place = match place {
+                                Some(0) => sent.len(),
+                                Some(back) => {
+                                    late.insert(back);
+                                    continue;
+                                }
+                                None => continue,
+                            };
+                            let before = arrived[answer.receiver].replace(place);
+                            ahead.extend(before.map(|it| place - it));
+                        }
+                        _ => {}
+                    }
+                }
+            }
+            for wanted in (1..=5).chain(half - 4..=half + 6) {
+                assert!(late.contains(&wanted), "{kind:?}: none {wanted} late");
+            }
+            let bounds = (half - 2..=half + 2).chain(round - 2..=round + 2);
+            for wanted in (1..=9).chain(bounds) {
+                assert!(ahead.contains(&wanted), "{kind:?}: none {wanted} ahead");
+            }
+        }
+    }
+
+    #[test]
+    fn the_stored_run_shows_older_payloads_of_both_kinds() {
+        let answers = answers(&generated(7, 400));
+        for kind in Kind::BOTH {
+            let of = |number| {
+                let it = answers.iter();
+                it.filter(|it| (it.kind, it.number) == (kind, number))
+                    .count()
+            };
+            assert!(of(19) >= 5, "{kind:?}: {}", of(19));
+            assert!(of(0) >= 50, "{kind:?}: {}", of(0));
+        }
     }
 
     #[test]
@@ -552,72 +957,106 @@ mod tests {
         assert!(repeats > 50, "only {repeats} repeats");
     }
 
-    /// What a digit receiver of a calm seed has got so far: which sent periods
-    /// arrived by their own payload, and which it marked carried.
+    /// What a receiver of a calm seed has got so far, as places among the sent
+    /// periods: the payloads that it took as fresh, the last of them since it was
+    /// fresh itself, and the periods that it marked carried.
     #[derive(Default)]
     struct Got {
-        arrived: BTreeSet<usize>,
+        fresh: BTreeSet<usize>,
+        last: Option<usize>,
         carried: BTreeSet<usize>,
+        older: usize,
     }
 
     impl Got {
-        /// Demand 3: carried exactly when its own payload or one of the next
-        /// two arrived (before the first sent period stands the start state).
+        /// A payload comes. Fresh is what is not behind the last fresh one, and
+        /// exactly the others are older.
+        fn hear(&mut self, place: usize, put: &[String], answer: &Answer) {
+            let behind = self.last.map_or(0, |last| last.saturating_sub(place));
+            if behind > 0 {
+                assert_eq!(answer.number, 19);
+                assert!(behind <= answer.kind.half());
+                self.older += 1;
+                return;
+            }
+            assert_eq!(answer.number, 0);
+            let ahead = self.last.map_or(1, |last| place - last);
+            assert!(ahead < answer.kind.half());
+            self.last = Some(place);
+            self.fresh.insert(place);
+            let first = place + 1 - answer.carried.len();
+            assert_eq!(answer.carried[..], put[first..=place]);
+            self.carried.extend(first..=place);
+        }
+
+        /// Demand 3: carried exactly when its own payload or one of the next two
+        /// arrived and was taken as fresh.
         fn check(&self) {
             let mut wanted = BTreeSet::new();
-            for place in &self.arrived {
+            for place in &self.fresh {
                 wanted.extend(place - 2..=*place);
             }
             assert_eq!(self.carried, wanted);
         }
     }
 
-    /// Goes through the output of a calm seed. Sent periods are counted from 2,
-    /// the start state standing at 0 and 1.
-    fn check_calm(output: &str) -> usize {
-        let mut put = vec!["000000".to_string(); 2];
+    /// The period of a payload itself in hex, as a receiver prints it.
+    fn own_period(kind: Kind, payload: &[u8]) -> String {
+        match kind {
+            Kind::Digits => hex::write(&[payload[2] >> 5, payload[2] & 31, payload[3]]),
+            Kind::Signalling => {
+                let halves = payload[11..].iter().flat_map(|it| [it & 15, it >> 4]);
+                hex::write(&halves.collect::<Vec<u8>>())
+            }
+        }
+    }
+
+    /// Goes through a calm seed: how many periods of a kind are carried and how
+    /// many payloads are older. Sent periods are counted from 2, the start state
+    /// standing at 0 and 1.
+    fn check_calm(kind: Kind, input: &[u8]) -> (usize, usize) {
+        let start = match kind {
+            Kind::Digits => hex::write(&[0; 3]),
+            Kind::Signalling => hex::write(&[0; 10]),
+        };
+        let mut put = vec![start; 2];
+        let mut newest = None;
         let mut got = [Got::default(), Got::default()];
-        let (mut is_digits, mut who, mut next, mut periods) = (false, 0, 0, 0);
-        for line in output.lines() {
-            let (key, value) = line.split_once('=').unwrap();
-            match key {
-                "sent" => {
-                    is_digits = value.len() == 16;
-                    if is_digits {
-                        put.push(own_window(value));
+        for event in events(input) {
+            match event {
+                Event::Sent(of, payload) if of == kind => {
+                    // A static repeat has the place of the last payload.
+                    let number = Some(kind.number(&payload));
+                    if number != newest {
+                        put.push(own_period(kind, &payload));
                     }
+                    newest = number;
                 }
-                "receiver" => who = value.parse::<usize>().unwrap() - 1,
-                "carried" if is_digits => {
-                    next = put.len() - value.parse::<usize>().unwrap();
-                    got[who].arrived.insert(put.len() - 1);
-                }
-                "period" if is_digits => {
-                    assert_eq!(value, put[next]);
-                    got[who].carried.insert(next);
-                    next += 1;
-                    periods += 1;
+                Event::Fresh(who) => named(who).for_each(|it| got[it].last = None),
+                Event::Answer(answer) if answer.kind == kind && answer.number != 13 => {
+                    let back = kind.step(kind.number(&answer.payload), newest.unwrap());
+                    got[answer.receiver].hear(put.len() - 1 - back, &put, &answer);
                 }
                 _ => {}
             }
         }
         got[0].check();
         got[1].check();
+        assert!(got[0].fresh.is_subset(&got[1].fresh));
         assert!(got[0].carried.is_subset(&got[1].carried));
-        periods
-    }
-
-    /// The current window of a digits payload in hex: type, edge, code.
-    fn own_window(payload: &str) -> String {
-        let first = u8::from_str_radix(&payload[4..6], 16).unwrap();
-        format!("{:02x}{:02x}{}", first / 32, first % 32, &payload[6..8])
+        let carried = got.iter().map(|it| it.carried.len()).sum();
+        (carried, got.iter().map(|it| it.older).sum())
     }
 
     #[test]
     fn calm_seeds_keep_demand_3_and_the_second_carries_no_less() {
         for seed in (1..80).step_by(4) {
-            let periods = check_calm(&tried(&generated(seed, 10_000)));
-            assert!(periods > 500, "seed {seed}: only {periods}");
+            let input = generated(seed, 10_000);
+            for kind in Kind::BOTH {
+                let (carried, older) = check_calm(kind, &input);
+                assert!(carried > 500, "seed {seed}, {kind:?}: only {carried}");
+                assert!(older > 20, "seed {seed}, {kind:?}: only {older} older");
+            }
         }
     }
 
