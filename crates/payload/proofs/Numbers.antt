@@ -12,7 +12,6 @@ use Rattle.refusal.proofs.Order.{below}
 use Rattle.octets.proofs.Order.{picked}
 use Rattle.record.specs.declared.syntax.Syntax.{Syntax}
 use Rattle.record.specs.declared.syntax.Record.{Record}
-use Rattle.record.specs.declared.table.Found.{Found}
 use Rattle.record.specs.declared.table.Found.the-variants.{Provisioned, Unprovisioned}
 use Rattle.voice.specs.declared.VoiceRead.{VoiceRead}
 use Rattle.voice.specs.declared.VoiceRead.the-variants.{BadVoice}
@@ -38,8 +37,7 @@ use Rattle.signalling.specs.Layout.{signallingRead}
 use Rattle.payload.specs.declared.layout.Family.{Family}
 use Rattle.payload.specs.declared.layout.Family.the-variants.{VoiceFamily, DataFamily, FaxFamily}
 use Rattle.payload.specs.declared.layout.Layout.{Layout}
-use Rattle.payload.specs.declared.layout.Layout.the-variants.{OfVoice, OfDigits, OfSignalling, OfFax, OfSid, OfData, NoLayout}
-use Rattle.payload.specs.Layout.{familyOf, onVoice, onFax, onData, layoutIn, layoutOf}
+use Rattle.payload.specs.Layout.{familyOf, onVoice, onFax, onData, layoutIn}
 use Rattle.payload.specs.Content.{readAs, numberOf, ofVoice, ofDigits, ofSignalling, ofFax, ofSid, ofData, Reading}
 use Rattle.payload.specs.Claims.{ReadingGives}
 

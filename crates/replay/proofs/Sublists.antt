@@ -9,7 +9,7 @@ use lib.Dec.{eqb}
 use lib.ListN.{length}
 use Rattle.octets.proofs.Order.{either}
 use Rattle.replay.specs.Examples.{picked, at, chosen}
-use Rattle.replay.specs.Periods.{freshFrom, freshOf, NearFrom, Near, BehindFrom, Behind, Rising, isIn, Among, Sublist, none-left, left-out, taken, In, here, further, AllIn}
+use Rattle.replay.specs.Periods.{freshFrom, freshOf, Near, BehindFrom, Rising, isIn, Among, Sublist, none-left, left-out, taken, In, here, further, AllIn}
 use Rattle.replay.specs.Claims.{Arriving}
 use Rattle.replay.proofs.Ranges.{map-append}
 
