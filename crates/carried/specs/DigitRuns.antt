@@ -32,8 +32,8 @@ call = wrong ∷ pause ∷ pause ∷ replicate 300 tone
 abbrev pub sent : List Emission
 sent = emissions freshSender 0 call
 
--- Both receivers have gaps of 127 periods, get a payload 128 periods behind the last fresh one, and go round at 256; one payload
--- comes twice.
+-- Both receivers have gaps of 127 periods, get payloads 128 periods behind the last fresh one, and go round at 256; some payloads
+-- come twice.
 abbrev pub first : List Emission
 first = chosen (1 ∷ 128 ∷ 0 ∷ 255 ∷ 256 ∷ 255 ∷ []) sent
 

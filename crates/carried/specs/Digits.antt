@@ -116,7 +116,7 @@ DigitsCarried =
     → Given entries first second
     → BothTake (periodOf entries) (arrivals first) (marksIn (answers freshReceiver first)) (numbersIn (answers freshReceiver first)) (arrivals second) (marksIn (answers freshReceiver second)) (numbersIn (answers freshReceiver second))
 
--- Document 01's words, with the smaller bound: where the payloads come in order, all of them are fresh.
+-- Demand 3 in its own words, with the smaller bound: where the payloads come in order, all of them are fresh.
 pub record InOrder (entries : List Entry) (first second : List Heard) : Type 0 where
   -- "Each gets some of its payloads, undamaged and in order"
   pub some : Sublist (payloadsOf second) (emissions freshSender 0 entries)

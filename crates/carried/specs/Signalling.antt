@@ -121,7 +121,7 @@ SignallingCarried =
     → Given start entries first second
     → BothTake (periodOf start entries) (arrivals first) (marksIn (answers freshReceiver first)) (numbersIn (answers freshReceiver first)) (arrivals second) (marksIn (answers freshReceiver second)) (numbersIn (answers freshReceiver second))
 
--- Document 01's words, with the smaller bound: where the payloads come in order, all of them are fresh.
+-- Demand 3 in its own words, with the smaller bound: where the payloads come in order, all of them are fresh.
 pub record InOrder (start : ℕ) (entries : List Entry) (first second : List Emission) : Type 0 where
   pub begins : started start .number ≡ sound
   pub ten : TenEach entries

@@ -4,7 +4,7 @@ use mathlib.Core.Path.{_≡_, refl, sym, ap, _∙_}
 use mathlib.Core.List.{List, [], _∷_}
 use mathlib.Core.Bool.{true, false, not}
 use native.Mathlib.Omega.{arith}
-use borrow.Author.Tests.{ltb-true, ltb-false}
+use borrow.Author.Tests.{le-ltb, ltb-true, ltb-false}
 use lib.Dec.{ltb, eqb}
 use lib.ListN.{length}
 use Rattle.refusal.specs.Numbers.{sound, lengthWrong, reservedCode, valueOutOfRange, olderPayload}
@@ -87,6 +87,7 @@ older =
       after-reading = λ r payload number is. received-by r payload (BadDigits number) is;
       not-read = not-read;
       exactly = λ r payload d is. (told r payload d is, λ less. ap numberOf (beyond r payload d is less));
+      else-taken = λ r payload d is most. within r payload d is (le-ltb farthest (stepFrom r (d .sequence)) most);
       stands = stands;
       first = first;
     }

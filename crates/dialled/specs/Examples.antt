@@ -78,14 +78,18 @@ refuses number receiver =
       receiver = receiver;
     }
 
--- a reserved bit, also in an older payload
+-- a reserved bit; and, before 19, an older payload an octet short, with a reserved bit, with an edge of 20
 abbrev pub NotTaken : Type 0
 NotTaken =
     received (heardAt 254) (2 ∷ 64 ∷ 32 ∷ 3 ∷ 32 ∷ 2 ∷ 32 ∷ 1 ∷ [])
+    ∷ received (heardAt 254) (253 ∷ 0 ∷ 32 ∷ 3 ∷ 32 ∷ 2 ∷ 32 ∷ [])
     ∷ received (heardAt 254) (253 ∷ 64 ∷ 32 ∷ 3 ∷ 32 ∷ 2 ∷ 32 ∷ 1 ∷ [])
+    ∷ received (heardAt 254) (253 ∷ 0 ∷ 52 ∷ 3 ∷ 32 ∷ 2 ∷ 32 ∷ 1 ∷ [])
     ∷ []
     ≡ refuses 14 (heardAt 254)
+    ∷ refuses 13 (heardAt 254)
     ∷ refuses 14 (heardAt 254)
+    ∷ refuses 15 (heardAt 254)
     ∷ []
 
 -- Steps 128 and 255 are older, also after voice; a first payload is never older, whatever its number.

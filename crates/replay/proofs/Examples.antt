@@ -109,4 +109,12 @@ farthest-replays k n room enough =
     .replays)
 
 pub costs : Costs
-costs = record { long-loss = refl; gets-less = refl; gets-more = refl }
+costs =
+    record {
+      long-loss = refl;
+      long-loss-of-digits = refl;
+      begun-anew = refl;
+      too-far-behind = refl;
+      gets-less = refl;
+      gets-more = refl;
+    }

@@ -5,12 +5,12 @@ use mathlib.Core.Bool.{true, false}
 use mathlib.Core.List.{List, [], _∷_, _++_, map}
 use native.Mathlib.Omega.{arith}
 use borrow.Author.Tests.{eq-eqb, le-ltb}
-use lib.Dec.{eqb}
+use lib.Dec.{ltb, eqb}
 use lib.ListN.{length}
 use Rattle.octets.proofs.Order.{either}
 use Rattle.replay.specs.Examples.{picked, at, chosen}
-use Rattle.replay.specs.Periods.{freshFrom, freshOf, Near, BehindFrom, Rising, isIn, Among, Sublist, none-left, left-out, taken, In, here, further, AllIn}
-use Rattle.replay.specs.Claims.{Arriving}
+use Rattle.replay.specs.Periods.{freshFrom, freshOf, dueFrom, soundOf, Near, BehindFrom, Rising, isIn, Among, Sublist, none-left, left-out, taken, In, here, further, AllIn}
+use Rattle.replay.specs.Claims.{Arriving, FreshAreSound}
 use Rattle.replay.proofs.Ranges.{map-append}
 
 abbrev pub Each : {A : Type 0} → (A → Type 0) → List A → Type 0
@@ -127,6 +127,20 @@ at-map f (suc n) (x ∷ xs) = at-map f n xs
 pub chosen-map : {A B : Type 0} (f : A → B) (ns : List ℕ) (xs : List A) → map f (chosen ns xs) ≡ chosen ns (map f xs)
 chosen-map f [] xs = refl
 chosen-map {B} f (n ∷ ns) xs = map-append f (at n xs) (chosen ns xs) ∙ ap₂ (λ (l r : List B). l ++ r) (at-map f n xs) (chosen-map f ns xs)
+
+-- the fresh ones are those that are due a 0
+sound-from : (a : ℕ) (bs : List ℕ) → soundOf (dueFrom a bs) bs ≡ freshFrom a bs
+sound-from a [] = refl
+sound-from a (b ∷ bs) =
+    either
+    (λ (t : ltb b a ≡ true). rw t (sound-from a bs))
+    (λ (t : ltb b a ≡ false). rw t (ap {B = List ℕ} (λ l. b ∷ l) (sound-from b bs)))
+    (ltb b a)
+    refl
+
+pub fresh-are-sound : FreshAreSound
+fresh-are-sound [] = refl
+fresh-are-sound (a ∷ more) = ap {B = List ℕ} (λ l. a ∷ l) (sound-from a more)
 
 -- arrivals in order are all fresh, and none is behind
 rising-fresh-from : (a : ℕ) (bs : List ℕ) → Rising a bs → freshFrom a bs ≡ bs

@@ -10,7 +10,7 @@ use lib.ListN.{length, replicate}
 use Rattle.refusal.specs.Numbers.{sound, olderPayload}
 use Rattle.counts.specs.Round.{step}
 use Rattle.replay.specs.Rule.{stepTaken, older, fillCount, newest}
-use Rattle.replay.specs.Periods.{Payload, pay, Mark, filled, carried, told, heldAt, cell, range, firstOf, spanOf, freshOf, dueOf, Near, Behind, Among}
+use Rattle.replay.specs.Periods.{Payload, pay, Mark, filled, carried, told, heldAt, cell, range, firstOf, spanOf, freshOf, dueOf, soundOf, Near, Behind, Among}
 
 -- A receiver: whether it has heard a payload, the last sequence, and the number that it answers to an event (a payload, or anything
 -- else), what that appends to its record and leaves as its state. A state may hold more than these two.
@@ -95,6 +95,10 @@ pub record Replays {A : Type 0} (S : ℕ → A) (arrivals : List ℕ) (marks : L
   pub long : length marks ≡ spanOf arrivals
   pub whole : map told marks ≡ map (cell S arrivals) (range (firstOf arrivals) (spanOf arrivals))
   pub place : (j : ℕ) → heldAt (firstOf arrivals) marks j ≡ cell S arrivals j
+
+-- The arrivals that are due a 0 are exactly the fresh ones.
+abbrev pub FreshAreSound : Type 0
+FreshAreSound = (arrivals : List ℕ) → soundOf (dueOf arrivals) arrivals ≡ freshOf arrivals
 
 -- Gaps, and arrivals so far behind, that the step still tells apart; and a first payload is replayed.
 pub record Told (k far gap back : ℕ) : Type 0 where

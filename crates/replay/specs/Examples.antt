@@ -83,11 +83,17 @@ OneMoreBehindFails =
     → Replays S ((a + (2 ^ k - far)) ∷ []) (recordOf r s (e ∷ e2 ∷ []))
     → ⊥
 
--- What the wish costs, in 7 bits with a farthest step of 63. After 63 payloads lost in a row, 1 to 63, what follows is taken as older
--- until the numbers come round: 64 to 127 are, 128 counts as 0 again, and 129 is then replayed as if it were 1.
--- And a receiver that gets more may carry less: where 9 overtakes 5, the periods 5, 6 and 7 are lost.
+-- What the wish costs, in 7 bits with a farthest step of 63 and in 8 bits with 127.
 pub record Costs : Type 0 where
+  -- After 63 or 127 payloads lost in a row what follows is taken as older until the numbers come round: 64 to 127 are, 128 counts as
+  -- 0 again, and 129 is then replayed as if it were 1.
   pub long-loss : answered 7 63 (0 ∷ 64 ∷ 65 ∷ 127 ∷ 128 ∷ 129 ∷ []) ≡ sound ∷ olderPayload ∷ olderPayload ∷ olderPayload ∷ sound ∷ sound ∷ []
+  pub long-loss-of-digits : answered 8 127 (0 ∷ 128 ∷ 129 ∷ 255 ∷ 256 ∷ 257 ∷ []) ≡ sound ∷ olderPayload ∷ olderPayload ∷ olderPayload ∷ sound ∷ sound ∷ []
+  -- A sender that begins anew at 0 is taken as older up to the last number, which was 40 here: that counts as a step of 0.
+  pub begun-anew : answered 7 63 (40 ∷ 0 ∷ 1 ∷ 24 ∷ 39 ∷ 40 ∷ 41 ∷ []) ≡ sound ∷ olderPayload ∷ olderPayload ∷ olderPayload ∷ olderPayload ∷ sound ∷ sound ∷ []
+  -- One payload 65 behind is taken as fresh, and then 101 to 162 as older; 163 counts as a step of 0.
+  pub too-far-behind : answered 7 63 (100 ∷ 35 ∷ 101 ∷ 102 ∷ 162 ∷ 163 ∷ []) ≡ sound ∷ sound ∷ olderPayload ∷ olderPayload ∷ olderPayload ∷ sound ∷ []
+  -- And a receiver that gets more may carry less: where 9 overtakes 5, the periods 5, 6 and 7 are lost.
   pub gets-less : map (heldAt 0 (marksOf 7 63 (0 ∷ 5 ∷ []))) (5 ∷ 6 ∷ 7 ∷ []) ≡ some 5 ∷ some 6 ∷ some 7 ∷ []
   pub gets-more : map (heldAt 0 (marksOf 7 63 (0 ∷ 9 ∷ 5 ∷ []))) (5 ∷ 6 ∷ 7 ∷ []) ≡ none ∷ none ∷ none ∷ []
 

@@ -80,6 +80,12 @@ abbrev pub dueOf : List ℕ → List ℕ
 dueOf [] = []
 dueOf (a ∷ more) = sound ∷ dueFrom a more
 
+-- of arrivals, those that are answered so with 0
+abbrev pub soundOf : List ℕ → List ℕ → List ℕ
+soundOf [] arrivals = []
+soundOf (n ∷ ns) [] = []
+soundOf (n ∷ ns) (a ∷ more) = cond (eqb n sound) (a ∷ soundOf ns more) (soundOf ns more)
+
 -- "successive fresh arrivals at most" `gap` "periods apart", where a came before these.
 abbrev pub NearFrom : ℕ → ℕ → List ℕ → Type 0
 NearFrom gap a [] = Unit

@@ -65,10 +65,13 @@ pub fill-content : received (received (heard 100) (100 ∷ 3 ∷ replicate 14 85
 unfolding signallingRead halves received
 fill-content = refl
 
--- a step of 63 is replayed, with 60 fills; steps of 64 and 127 are older, and alarm, current value and sequence stand
+-- A step of 63 is replayed, with 60 fills. Steps of 64 and 127 are older: with the alarm and other samples, nothing of the receiver
+-- moves. An octet short they are 13. A first payload is never older.
 pub older-ones :
     (received (heard 5) (payload 68) .fills ≡ 60)
-    × (received (heard 5) (payload 197) ≡ record { number = 19; fills = 0; fill = 0; carried = 0; periods = replicate 30 0; receiver = heard 5 })
-    × (received (heard 5) (payload 132) ≡ record { number = 19; fills = 0; fill = 0; carried = 0; periods = replicate 30 0; receiver = heard 5 })
+    × (received (heard 5) (197 ∷ replicate 15 119) ≡ record { number = 19; fills = 0; fill = 0; carried = 0; periods = replicate 30 0; receiver = heard 5 })
+    × (received (heard 5) (132 ∷ replicate 15 119) ≡ record { number = 19; fills = 0; fill = 0; carried = 0; periods = replicate 30 0; receiver = heard 5 })
+    × (received (heard 5) (132 ∷ replicate 14 119) ≡ record { number = 13; fills = 0; fill = 0; carried = 0; periods = replicate 30 0; receiver = heard 5 })
+    × (received freshReceiver (payload 127) .carried ≡ 3)
 unfolding signallingRead halves received
-older-ones = (refl, refl, refl)
+older-ones = (refl, refl, refl, refl, refl)

@@ -5,7 +5,7 @@ use mathlib.Core.List.{List}
 use mathlib.Core.Bool.{true, false}
 use mathlib.Core.Logic.{⊎-elim}
 use native.Mathlib.Omega.{arith}
-use borrow.Author.Tests.{ltb-true, ltb-false}
+use borrow.Author.Tests.{le-ltb, ltb-true, ltb-false}
 use lib.Dec.{ltb, eqb}
 use lib.ListN.{length}
 use Rattle.refusal.specs.Numbers.{sound, lengthWrong, olderPayload}
@@ -83,6 +83,7 @@ older =
       after-reading = unread;
       not-read = not-read;
       exactly = λ r payload reads. (told r payload reads, λ less. ap numberOf (beyond r payload reads less));
+      else-taken = λ r payload reads most. within r payload reads (le-ltb farthest (step r payload) most);
       stands = stands;
       first = first;
     }

@@ -1,5 +1,6 @@
--- One sub-channel at the far end (document 01, "Payload types" and "Receivers"; document 02, wish 1): what a payload of a type
--- brings about, by what is provisioned on the sub-channel. The layout names the receiver; a refusal hands the trunk back unchanged.
+-- One sub-channel at the far end (document 01, "Payload types" and "Receivers"; document 02, wishes 1 and 3): what a payload of a
+-- type brings about, by what is provisioned on the sub-channel. The layout names the receiver; a refusal hands the trunk back
+-- unchanged.
 use Prim.Native.Nat.{ℕ}
 use mathlib.Core.List.{List, [], _∷_}
 use mathlib.Core.Bool.{false, cond}
@@ -80,7 +81,7 @@ voiceTaken t (Voice sequence coding front) =
     passing (record { digits = dialled.voiceHeard (t .digits); signalling = t .signalling; fax = t .fax }) HeardVoice
 voiceTaken t (BadVoice number) = refusing t number
 
--- a digits payload, by what the digit receiver answers
+-- a digits payload, by what the digit receiver answers: what reading refuses, then 19
 abbrev pub dialledTo : Trunk → digits.Received → Told
 dialledTo t got =
     cond (eqb (got .number) sound)
@@ -97,7 +98,7 @@ dialledTo t got =
 abbrev pub digitsTaken : Trunk → List ℕ → Told
 digitsTaken t payload = dialledTo t (dialled.received (t .digits) payload)
 
--- a signalling payload, by what the signalling receiver answers
+-- a signalling payload, by what the signalling receiver answers: what reading refuses, then 19
 abbrev pub seizedTo : Trunk → signalling.Received → Told
 seizedTo t got =
     cond (eqb (got .number) sound)

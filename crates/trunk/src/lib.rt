@@ -1,6 +1,6 @@
-// One sub-channel at the far end (document 01, "Payload types" and "Receivers"; document 02, wish 1). Its payloads, each with its
-// type, go to the receivers that their layouts name, by what is provisioned on the sub-channel. 11 to 16 come from here, and 41 and
-// 42 of fax: no caller is expected to have looked first.
+// One sub-channel at the far end (document 01, "Payload types" and "Receivers"; document 02, wishes 1 and 3). Its payloads, each with
+// its type, go to the receivers that their layouts name, by what is provisioned on the sub-channel. 11 to 16 come from here, 19 of
+// digits and signalling, and 41 and 42 of fax: no caller is expected to have looked first.
 use data::DataRead;
 use digits::layout::Window;
 use faxing::Did;
