@@ -45,8 +45,8 @@ use Rattle.replay.specs.Periods.{Mark, AllIn}
 use Rattle.carried.specs.Emissions.{Emission}
 use Rattle.carried.specs.Digits as digits
 use Rattle.carried.specs.Signalling as signalling
-use Rattle.carried.specs.Trunks.{Coming, came, other, toldOf, numberOf, numbersOf, dialledMarks, digitRecord, seizedMarks, signallingRecord}
-use Rattle.carried.specs.Tied.{Puts, DigitsPut, DigitCallsSent, no-more-digits, digits-on, DigitsReceived, no-more-heard, receives-on, hears-on, SignallingPut, SignallingSent, no-more-samples, samples-on, SignallingReceived, no-more-come, comes-on, typeOf, octetsIn, TrunkTold, no-more-told, tells-on, digitMarks, signallingMarks, numbersTold, CallsAre, DigitCallsCarried, SignallingCallsCarried, FreshTrunk, TrunkDigitCallsCarried, TrunkSignallingCallsCarried}
+use Rattle.carried.specs.Trunks.{Coming, came, other, toldOf, tellings}
+use Rattle.carried.specs.Tied.{Puts, DigitsPut, DigitCallsSent, no-more-digits, digits-on, DigitsReceived, no-more-heard, receives-on, hears-on, SignallingPut, SignallingSent, no-more-samples, samples-on, SignallingReceived, no-more-come, comes-on, typeOf, octetsIn, TrunkTold, no-more-told, tells-on, CallsAre, DigitCallsCarried, SignallingCallsCarried, FreshTrunk, TrunkDigitCallsCarried, TrunkSignallingCallsCarried}
 use Rattle.carried.proofs.Digits.{digits-carried}
 use Rattle.carried.proofs.Signalling.{signalling-carried}
 use Rattle.carried.proofs.Trunks.{trunk-digits-carried, trunk-signalling-carried}
@@ -192,22 +192,14 @@ told-is : (kind : ℕ) (found : Found) (t : Trunk) (c : Coming) → taken t foun
 told-is kind found t (came p) = refl
 told-is kind found t (other ptype octets) = refl
 
--- the records and the numbers, to which one telling of what comes is joined
-module _ {L : Type 0} (kind : ℕ) (found : Found) (join : Coming → Told → L → L) (all : List Coming → List Told → L) (whole : Trunk → List Coming → L)
-    (none : (t : Trunk) → all [] [] ≡ whole t [])
-    (each : (c : Coming) (cs : List Coming) (x : Told) (xs : List Told) → all (c ∷ cs) (x ∷ xs) ≡ join c x (all cs xs))
-    (comes : (t : Trunk) (c : Coming) (cs : List Coming) → whole t (c ∷ cs) ≡ join c (toldOf kind found t c) (whole (toldOf kind found t c .trunk) cs)) where
-  trunk-told : (t : Trunk) (cs : List Coming) (xs : List Told) → TrunkTold kind found t cs xs → all cs xs ≡ whole t cs
-  trunk-told t0 cs0 xs0 (no-more-told t) = none t
-  trunk-told t0 cs0 xs0 (tells-on t c cs x xs call more) =
-      let is : x ≡ toldOf kind found t c =
-      comes-of 1 take-kinds.ps take-kinds.r take-reads.Post _ _ (λ (i : Trunk × Found × ℕ × List ℕ). taken (i .0) (i .1) (i .2) (i .3)) (λ κs a x s p. p) (t, found, typeOf kind c, octetsIn c) x call
-      ∙ told-is kind found t c
-      in
-      each c cs x xs
-      ∙ ap (join c x) (trunk-told (x .trunk) cs xs more)
-      ∙ ap (λ (y : Told). join c y (whole (y .trunk) cs)) is
-      ∙ sym (comes t c cs)
+trunk-told : (kind : ℕ) (found : Found) (t : Trunk) (cs : List Coming) (xs : List Told) → TrunkTold kind found t cs xs → xs ≡ tellings kind found t cs
+trunk-told kind found t0 cs0 xs0 (no-more-told t) = refl
+trunk-told kind found t0 cs0 xs0 (tells-on t c cs x xs call more) =
+    let is : x ≡ toldOf kind found t c =
+    comes-of 1 take-kinds.ps take-kinds.r take-reads.Post _ _ (λ (i : Trunk × Found × ℕ × List ℕ). taken (i .0) (i .1) (i .2) (i .3)) (λ κs a x s p. p) (t, found, typeOf kind c, octetsIn c) x call
+    ∙ told-is kind found t c
+    in
+    ap (λ (l : List Told). x ∷ l) (trunk-told kind found (x .trunk) cs xs more) ∙ ap (λ (y : Told). y ∷ tellings kind found (y .trunk) cs) is
 
 pub calls-are : CallsAre
 calls-are =
@@ -216,12 +208,7 @@ calls-are =
       digits-received = digits-received;
       signalling-sent = samples-sent;
       signalling-received = samples-received;
-      trunk-digits = λ found.
-          trunk-told 1 found (λ (c : Coming) (x : Told) (l : List (Mark Window)). dialledMarks (x .dialled) ++ l) (λ cs xs. digitMarks xs) (digitRecord found) (λ t. refl) (λ c cs x xs. refl) (λ t c cs. refl);
-      trunk-signalling = λ found.
-          trunk-told 2 found (λ (c : Coming) (x : Told) (l : List (Mark (List ℕ))). seizedMarks (x .seized) ++ l) (λ cs xs. signallingMarks xs) (signallingRecord found) (λ t. refl) (λ c cs x xs. refl) (λ t c cs. refl);
-      trunk-numbers = λ kind found.
-          trunk-told kind found numberOf numbersTold (numbersOf kind found) (λ t. refl) (λ c cs x xs. refl) (λ t c cs. refl);
+      trunk-told = trunk-told;
     }
 
 -- demand 3 of calls
@@ -282,21 +269,13 @@ signalling-calls-carried start entries first second answers answers2 calls =
 fresh-trunk : (t : Trunk) → FreshTrunk t → t ≡ freshTrunk
 fresh-trunk t m = comes-of 0 trunk-kinds.ps trunk-kinds.r trunk-reads.Post _ _ (λ (i : Unit {0}). freshTrunk) (λ κs a x s p. p) (tt {0}) t m
 
-digits-told : (found : Found) (t : Trunk) (cs : List Coming) (xs : List Told) → FreshTrunk t → TrunkTold 1 found t cs xs → digitMarks xs ≡ digitRecord found freshTrunk cs
-digits-told found t cs xs fresh told = calls-are .trunk-digits found t cs xs told ∙ ap (λ (u : Trunk). digitRecord found u cs) (fresh-trunk t fresh)
-
-signalling-told : (found : Found) (t : Trunk) (cs : List Coming) (xs : List Told) → FreshTrunk t → TrunkTold 2 found t cs xs → signallingMarks xs ≡ signallingRecord found freshTrunk cs
-signalling-told found t cs xs fresh told = calls-are .trunk-signalling found t cs xs told ∙ ap (λ (u : Trunk). signallingRecord found u cs) (fresh-trunk t fresh)
-
-numbers-told : (kind : ℕ) (found : Found) (t : Trunk) (cs : List Coming) (xs : List Told) → FreshTrunk t → TrunkTold kind found t cs xs → numbersTold cs xs ≡ numbersOf kind found freshTrunk cs
-numbers-told kind found t cs xs fresh told = calls-are .trunk-numbers kind found t cs xs told ∙ ap (λ (u : Trunk). numbersOf kind found u cs) (fresh-trunk t fresh)
+told-fresh : (kind : ℕ) (found : Found) (t : Trunk) (cs : List Coming) (xs : List Told) → FreshTrunk t → TrunkTold kind found t cs xs → xs ≡ tellings kind found freshTrunk cs
+told-fresh kind found t cs xs fresh told = trunk-told kind found t cs xs told ∙ ap (λ (u : Trunk). tellings kind found u cs) (fresh-trunk t fresh)
 
 pub trunk-digit-calls-carried : TrunkDigitCallsCarried
 trunk-digit-calls-carried found entries first second t t2 told told2 given fresh fresh2 calls calls2 =
-    rw (digits-told found t first told fresh calls, digits-told found t2 second told2 fresh2 calls2, numbers-told 1 found t first told fresh calls, numbers-told 1 found t2 second told2 fresh2 calls2)
-    (trunk-digits-carried found entries first second given)
+    rw (told-fresh 1 found t first told fresh calls, told-fresh 1 found t2 second told2 fresh2 calls2) (trunk-digits-carried found entries first second given)
 
 pub trunk-signalling-calls-carried : TrunkSignallingCallsCarried
 trunk-signalling-calls-carried found start entries first second t t2 told told2 given fresh fresh2 calls calls2 =
-    rw (signalling-told found t first told fresh calls, signalling-told found t2 second told2 fresh2 calls2, numbers-told 2 found t first told fresh calls, numbers-told 2 found t2 second told2 fresh2 calls2)
-    (trunk-signalling-carried found start entries first second given)
+    rw (told-fresh 2 found t first told fresh calls, told-fresh 2 found t2 second told2 fresh2 calls2) (trunk-signalling-carried found start entries first second given)

@@ -21,8 +21,8 @@ use Rattle.dialling.specs.Sender.{freshSender, windowIn, due, payloadOf, afterS
 use Rattle.dialling.specs.SenderClaims.{Proper, ReadsBack}
 use Rattle.dialling.proofs.SenderBack.{split, fresh-proper, stays-proper, sent-reads-back}
 use Rattle.dialling.proofs.SenderCases as cases
-use Rattle.replay.specs.Periods.{pay, Rising}
-use Rattle.replay.proofs.Sublists.{Each, rising-from}
+use Rattle.replay.specs.Periods.{pay}
+use Rattle.replay.proofs.Sublists.{Each, rising-from, Rising}
 use Rattle.carried.specs.Emissions.{Emission}
 use Rattle.carried.specs.Digits.{numberAfter, emitted, emissions, sentOf, sentBy, periodOf}
 use Rattle.carried.proofs.DigitRule.{readPayload}

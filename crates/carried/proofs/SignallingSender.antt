@@ -24,8 +24,8 @@ use Rattle.seizing.specs.Sender.{senderFrom, started, isQuiet, windowsAfter, af
 use Rattle.seizing.specs.Claims.{Proper}
 use Rattle.seizing.proofs.SenderCases.{refused}
 use Rattle.seizing.proofs.SenderBack.{sender-starts, sender-stays, payload-back}
-use Rattle.replay.specs.Periods.{pay, Rising}
-use Rattle.replay.proofs.Sublists.{Each, rising-from}
+use Rattle.replay.specs.Periods.{pay}
+use Rattle.replay.proofs.Sublists.{Each, rising-from, Rising}
 use Rattle.carried.specs.Emissions.{Emission}
 use Rattle.carried.specs.Signalling.{tens, repeats, emitted, numberAfter, emissions, sentOf, sentBy, startPeriod, periodOf, TenEach}
 use Rattle.carried.proofs.Tens.{Three, tens-of}

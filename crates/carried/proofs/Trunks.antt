@@ -47,7 +47,7 @@ use Rattle.replay.specs.Periods.{Mark}
 use Rattle.carried.specs.Emissions.{Emission}
 use Rattle.carried.specs.Digits as digits
 use Rattle.carried.specs.Signalling as signalling
-use Rattle.carried.specs.Trunks.{Coming, came, other, payloadsOf, numbersOf, dialledMarks, digitRecord, seizedMarks, signallingRecord, NoDigits, NoSignalling, TrunkDigitsCarried, TrunkSignallingCarried}
+use Rattle.carried.specs.Trunks.{Coming, came, other, payloadsOf, tellings, numbersIn, dialledMarks, digitMarks, seizedMarks, signallingMarks, NoDigits, NoSignalling, TrunkDigitsCarried, TrunkSignallingCarried}
 use Rattle.carried.proofs.DigitRule.{receiverNext}
 use Rattle.carried.proofs.Digits.{digits-carried}
 use Rattle.carried.proofs.Signalling.{signalling-carried}
@@ -155,18 +155,21 @@ same-payloads found [] = refl
 same-payloads found (came p ∷ cs) = ap (λ (ps : List Emission). p ∷ ps) (same-payloads found cs)
 same-payloads found (other ptype octets ∷ cs) = others-no-payload (layoutOf found ptype) octets (runOf found cs) ∙ same-payloads found cs
 
--- the record of that run
-abbrev digitMarks : digit-receiver.Receiver → List digits.Heard → List (Mark Window)
-digitMarks r hs = digits.marksIn (digits.answers r hs)
+-- the record of what comes, by what is told, and of that run
+abbrev digitRecord : Found → Trunk → List Coming → List (Mark Window)
+digitRecord found t cs = digitMarks (tellings 1 found t cs)
+
+abbrev heardMarks : digit-receiver.Receiver → List digits.Heard → List (Mark Window)
+heardMarks r hs = digits.marksIn (digits.answers r hs)
 
 -- a telling before what follows it, as the digit receiver has both
 joined-digits : {x : Told} {ms : List (Mark Window)} {r : digit-receiver.Receiver} (found : Found) (cs : List Coming) → ToDigits x ms r
-    → ((t : Trunk) → digitRecord found t cs ≡ digitMarks (t .digits) (runOf found cs))
-    → dialledMarks (x .dialled) ++ digitRecord found (x .trunk) cs ≡ ms ++ digitMarks r (runOf found cs)
+    → ((t : Trunk) → digitRecord found t cs ≡ heardMarks (t .digits) (runOf found cs))
+    → dialledMarks (x .dialled) ++ digitRecord found (x .trunk) cs ≡ ms ++ heardMarks r (runOf found cs)
 joined-digits {x} {ms} {r} found cs to rest =
     ap (λ (l : List (Mark Window)). dialledMarks (x .dialled) ++ l) (rest (x .trunk))
-    ∙ ap (λ (q : digit-receiver.Receiver). dialledMarks (x .dialled) ++ digitMarks q (runOf found cs)) (to .leaves)
-    ∙ ap (λ (l : List (Mark Window)). l ++ digitMarks r (runOf found cs)) (to .appends)
+    ∙ ap (λ (q : digit-receiver.Receiver). dialledMarks (x .dialled) ++ heardMarks q (runOf found cs)) (to .leaves)
+    ∙ ap (λ (l : List (Mark Window)). l ++ heardMarks r (runOf found cs)) (to .appends)
 
 came-to-digits : (t : Trunk) (found : Found) (p : List ℕ) → layoutOf found 1 ≡ OfDigits
     → ToDigits (taken t found 1 p) (digits.marksOf (dialled.received (t .digits) p)) (dialled.received (t .digits) p .receiver)
@@ -176,7 +179,7 @@ other-comes-to-digits : (t : Trunk) (found : Found) (ptype : ℕ) (p : List ℕ)
     → ToDigits (taken t found ptype p) [] (receiverBy (t .digits) (heardAs (layoutOf found ptype) p))
 other-comes-to-digits t found ptype p none = rw (as-layout t found ptype p refl) (other-to-digits (layoutOf found ptype) t p none)
 
-digit-record-is : (found : Found) → layoutOf found 1 ≡ OfDigits → (cs : List Coming) → NoDigits found cs → (t : Trunk) → digitRecord found t cs ≡ digitMarks (t .digits) (runOf found cs)
+digit-record-is : (found : Found) → layoutOf found 1 ≡ OfDigits → (cs : List Coming) → NoDigits found cs → (t : Trunk) → digitRecord found t cs ≡ heardMarks (t .digits) (runOf found cs)
 digit-record-is found carries [] none t = refl
 digit-record-is found carries (came p ∷ cs) none t =
     joined-digits found cs (came-to-digits t found (p .octets) carries) (digit-record-is found carries cs none)
@@ -189,7 +192,7 @@ digit-record-is found carries (other ptype octets ∷ cs) none t =
 abbrev digitNumbers : digit-receiver.Receiver → List digits.Heard → List ℕ
 digitNumbers r hs = digits.numbersIn (digits.answers r hs)
 
-digit-numbers-are : (found : Found) → layoutOf found 1 ≡ OfDigits → (cs : List Coming) → NoDigits found cs → (t : Trunk) → numbersOf 1 found t cs ≡ digitNumbers (t .digits) (runOf found cs)
+digit-numbers-are : (found : Found) → layoutOf found 1 ≡ OfDigits → (cs : List Coming) → NoDigits found cs → (t : Trunk) → numbersIn cs (tellings 1 found t cs) ≡ digitNumbers (t .digits) (runOf found cs)
 digit-numbers-are found carries [] none t = refl
 digit-numbers-are found carries (came p ∷ cs) none t =
     let next = taken t found 1 (p .octets) .trunk in
@@ -265,17 +268,20 @@ other-to-signalling OfData t p none = go (dataRead p)
     go (BadData n) = record { appends = refl; leaves = refl }
 other-to-signalling (NoLayout n) t p none = record { appends = refl; leaves = refl }
 
--- the record of a run
-abbrev signallingMarks : signalling-receiver.Receiver → List Emission → List (Mark (List ℕ))
-signallingMarks r ps = signalling.marksIn (signalling.answers r ps)
+-- the record of what comes, by what is told, and of a run
+abbrev signallingRecord : Found → Trunk → List Coming → List (Mark (List ℕ))
+signallingRecord found t cs = signallingMarks (tellings 2 found t cs)
+
+abbrev comeMarks : signalling-receiver.Receiver → List Emission → List (Mark (List ℕ))
+comeMarks r ps = signalling.marksIn (signalling.answers r ps)
 
 joined-signalling : {x : Told} {ms : List (Mark (List ℕ))} {r : signalling-receiver.Receiver} (found : Found) (cs : List Coming) → ToSignalling x ms r
-    → ((t : Trunk) → signallingRecord found t cs ≡ signallingMarks (t .signalling) (payloadsOf cs))
-    → seizedMarks (x .seized) ++ signallingRecord found (x .trunk) cs ≡ ms ++ signallingMarks r (payloadsOf cs)
+    → ((t : Trunk) → signallingRecord found t cs ≡ comeMarks (t .signalling) (payloadsOf cs))
+    → seizedMarks (x .seized) ++ signallingRecord found (x .trunk) cs ≡ ms ++ comeMarks r (payloadsOf cs)
 joined-signalling {x} {ms} {r} found cs to rest =
     ap (λ (l : List (Mark (List ℕ))). seizedMarks (x .seized) ++ l) (rest (x .trunk))
-    ∙ ap (λ (q : signalling-receiver.Receiver). seizedMarks (x .seized) ++ signallingMarks q (payloadsOf cs)) (to .leaves)
-    ∙ ap (λ (l : List (Mark (List ℕ))). l ++ signallingMarks r (payloadsOf cs)) (to .appends)
+    ∙ ap (λ (q : signalling-receiver.Receiver). seizedMarks (x .seized) ++ comeMarks q (payloadsOf cs)) (to .leaves)
+    ∙ ap (λ (l : List (Mark (List ℕ))). l ++ comeMarks r (payloadsOf cs)) (to .appends)
 
 came-to-signalling : (t : Trunk) (found : Found) (p : List ℕ) → layoutOf found 2 ≡ OfSignalling
     → ToSignalling (taken t found 2 p) (signalling.marksOf (seized.received (t .signalling) p)) (seized.received (t .signalling) p .receiver)
@@ -285,7 +291,7 @@ other-comes-to-signalling : (t : Trunk) (found : Found) (ptype : ℕ) (p : List 
     → ToSignalling (taken t found ptype p) [] (t .signalling)
 other-comes-to-signalling t found ptype p none = rw (as-layout t found ptype p refl) (other-to-signalling (layoutOf found ptype) t p none)
 
-signalling-record-is : (found : Found) → layoutOf found 2 ≡ OfSignalling → (cs : List Coming) → NoSignalling found cs → (t : Trunk) → signallingRecord found t cs ≡ signallingMarks (t .signalling) (payloadsOf cs)
+signalling-record-is : (found : Found) → layoutOf found 2 ≡ OfSignalling → (cs : List Coming) → NoSignalling found cs → (t : Trunk) → signallingRecord found t cs ≡ comeMarks (t .signalling) (payloadsOf cs)
 signalling-record-is found carries [] none t = refl
 signalling-record-is found carries (came p ∷ cs) none t =
     joined-signalling found cs (came-to-signalling t found (p .octets) carries)
@@ -297,7 +303,7 @@ signalling-record-is found carries (other ptype octets ∷ cs) none t =
 abbrev signallingNumbers : signalling-receiver.Receiver → List Emission → List ℕ
 signallingNumbers r ps = signalling.numbersIn (signalling.answers r ps)
 
-signalling-numbers-are : (found : Found) → layoutOf found 2 ≡ OfSignalling → (cs : List Coming) → NoSignalling found cs → (t : Trunk) → numbersOf 2 found t cs ≡ signallingNumbers (t .signalling) (payloadsOf cs)
+signalling-numbers-are : (found : Found) → layoutOf found 2 ≡ OfSignalling → (cs : List Coming) → NoSignalling found cs → (t : Trunk) → numbersIn cs (tellings 2 found t cs) ≡ signallingNumbers (t .signalling) (payloadsOf cs)
 signalling-numbers-are found carries [] none t = refl
 signalling-numbers-are found carries (came p ∷ cs) none t =
     let next = taken t found 2 (p .octets) .trunk in

@@ -43,7 +43,7 @@ use Rattle.replay.specs.Claims.{Arriving, BothTake}
 use Rattle.carried.specs.Emissions.{Emission}
 use Rattle.carried.specs.Digits as digits
 use Rattle.carried.specs.Signalling as signalling
-use Rattle.carried.specs.Trunks.{Coming, came, other, arrivals, numberOf, numbersOf, dialledMarks, digitRecord, seizedMarks, signallingRecord, DigitsGiven, SignallingGiven}
+use Rattle.carried.specs.Trunks.{Coming, came, other, arrivals, tellings, numbersIn, digitMarks, signallingMarks, DigitsGiven, SignallingGiven}
 use Rattle.dialling.proofs.fresh.Kinds as digit-sender-kinds
 use Rattle.dialling.proofs.fresh.Reads as digit-sender-reads
 use Rattle.dialling.proofs.send.Kinds as digit-send-kinds
@@ -159,28 +159,13 @@ pub data TrunkTold (kind : ℕ) (found : Found) : Trunk → List Coming → List
       → TrunkTold kind found (x .trunk) cs xs
       → TrunkTold kind found t (c ∷ cs) (x ∷ xs)
 
-abbrev pub digitMarks : List Told → List (Mark Window)
-digitMarks [] = []
-digitMarks (x ∷ xs) = dialledMarks (x .dialled) ++ digitMarks xs
-
-abbrev pub signallingMarks : List Told → List (Mark (List ℕ))
-signallingMarks [] = []
-signallingMarks (x ∷ xs) = seizedMarks (x .seized) ++ signallingMarks xs
-
-abbrev pub numbersTold : List Coming → List Told → List ℕ
-numbersTold [] xs = []
-numbersTold (c ∷ cs) [] = []
-numbersTold (c ∷ cs) (x ∷ xs) = numberOf c x (numbersTold cs xs)
-
 -- What comes of such calls is what demand 3 speaks of.
 pub record CallsAre : Type 0 where
   pub digits-sent : (s : digit-sender.Sender) (n : ℕ) (es : List digit-entry.Entry) (ps : List Emission) → DigitCallsSent s n es ps → ps ≡ digits.emissions s n es
   pub digits-received : (r : digit-receiver.Receiver) (hs : List digits.Heard) (xs : List digit-received.Received) → DigitsReceived r hs xs → xs ≡ digits.answers r hs
   pub signalling-sent : (s : signalling-sender.Sender) (n : ℕ) (es : List signalling-entry.Entry) (ps : List Emission) → SignallingSent s n es ps → ps ≡ signalling.emissions s n es
   pub signalling-received : (r : signalling-receiver.Receiver) (ps : List Emission) (xs : List signalling-received.Received) → SignallingReceived r ps xs → xs ≡ signalling.answers r ps
-  pub trunk-digits : (found : Found) (t : Trunk) (cs : List Coming) (xs : List Told) → TrunkTold 1 found t cs xs → digitMarks xs ≡ digitRecord found t cs
-  pub trunk-signalling : (found : Found) (t : Trunk) (cs : List Coming) (xs : List Told) → TrunkTold 2 found t cs xs → signallingMarks xs ≡ signallingRecord found t cs
-  pub trunk-numbers : (kind : ℕ) (found : Found) (t : Trunk) (cs : List Coming) (xs : List Told) → TrunkTold kind found t cs xs → numbersTold cs xs ≡ numbersOf kind found t cs
+  pub trunk-told : (kind : ℕ) (found : Found) (t : Trunk) (cs : List Coming) (xs : List Told) → TrunkTold kind found t cs xs → xs ≡ tellings kind found t cs
 
 -- So demand 3 holds of calls: a sender and two receivers, each begun with what its `fresh` or `start` returns.
 pub record DigitCalls (entries : List digit-entry.Entry) (first second : List digits.Heard) (answers answers2 : List digit-received.Received) : Type 0 where
@@ -243,7 +228,7 @@ TrunkDigitCallsCarried =
     → FreshTrunk t2
     → TrunkTold 1 found t first told
     → TrunkTold 1 found t2 second told2
-    → BothTake (digits.periodOf entries) (arrivals first) (digitMarks told) (numbersTold first told) (arrivals second) (digitMarks told2) (numbersTold second told2)
+    → BothTake (digits.periodOf entries) (arrivals first) (digitMarks told) (numbersIn first told) (arrivals second) (digitMarks told2) (numbersIn second told2)
 
 abbrev pub TrunkSignallingCallsCarried : Type 0
 TrunkSignallingCallsCarried =
@@ -253,4 +238,4 @@ TrunkSignallingCallsCarried =
     → FreshTrunk t2
     → TrunkTold 2 found t first told
     → TrunkTold 2 found t2 second told2
-    → BothTake (signalling.periodOf start entries) (arrivals first) (signallingMarks told) (numbersTold first told) (arrivals second) (signallingMarks told2) (numbersTold second told2)
+    → BothTake (signalling.periodOf start entries) (arrivals first) (signallingMarks told) (numbersIn first told) (arrivals second) (signallingMarks told2) (numbersIn second told2)

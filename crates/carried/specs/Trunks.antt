@@ -1,6 +1,6 @@
 -- Demand 3 of a trunk: the sender's payloads come to one sub-channel's trunk among others of that sub-channel, of other kinds
--- (voice, silence, fax, ..) or refused, and its record and its answers to them are those of the theorem. Proved in proofs/Trunks.antt; TrunkRuns.antt has
--- runs that meet what is asked.
+-- (voice, silence, fax, ..) or refused by reading, and its record and its answers to them are those of the theorem. Proved in
+-- proofs/Trunks.antt; TrunkRuns.antt has runs that meet what is asked.
 --
 -- It holds of the code by the contracts, as Tied.antt says: `taken` is what `trunk::take` answers, and `freshTrunk` what
 -- `trunk::fresh` returns.
@@ -51,32 +51,35 @@ abbrev pub toldOf : ℕ → Found → Trunk → Coming → Told
 toldOf kind found t (came p) = taken t found kind (p .octets)
 toldOf kind found t (other ptype octets) = taken t found ptype octets
 
--- the numbers that it tells of the sender's payloads
-abbrev pub numberOf : Coming → Told → List ℕ → List ℕ
-numberOf (came p) x numbers = x .number ∷ numbers
-numberOf (other ptype octets) x numbers = numbers
+-- What it tells of all that comes, in turn.
+abbrev pub tellings : ℕ → Found → Trunk → List Coming → List Told
+tellings kind found t [] = []
+tellings kind found t (c ∷ cs) = toldOf kind found t c ∷ tellings kind found (toldOf kind found t c .trunk) cs
 
-abbrev pub numbersOf : ℕ → Found → Trunk → List Coming → List ℕ
-numbersOf kind found t [] = []
-numbersOf kind found t (c ∷ cs) = numberOf c (toldOf kind found t c) (numbersOf kind found (toldOf kind found t c .trunk) cs)
+-- the numbers that are told of the sender's payloads
+abbrev pub numbersIn : List Coming → List Told → List ℕ
+numbersIn [] xs = []
+numbersIn (c ∷ cs) [] = []
+numbersIn (came p ∷ cs) (x ∷ xs) = x .number ∷ numbersIn cs xs
+numbersIn (other ptype octets ∷ cs) (x ∷ xs) = numbersIn cs xs
 
 -- The trunk's records: what its receivers append, one after the other. Digits have type 1, signalling type 2.
 abbrev pub dialledMarks : Dialled → List (Mark Window)
 dialledMarks a = replicate (a .fills) (filled (a .fill)) ++ map carried (take (a .carried) (a .periods))
 
-abbrev pub digitRecord : Found → Trunk → List Coming → List (Mark Window)
-digitRecord found t [] = []
-digitRecord found t (c ∷ cs) = dialledMarks (toldOf 1 found t c .dialled) ++ digitRecord found (toldOf 1 found t c .trunk) cs
+abbrev pub digitMarks : List Told → List (Mark Window)
+digitMarks [] = []
+digitMarks (x ∷ xs) = dialledMarks (x .dialled) ++ digitMarks xs
 
 abbrev pub seizedMarks : Seized → List (Mark (List ℕ))
 seizedMarks a =
     replicate (a .fills) (filled (replicate 10 (a .fill))) ++ map carried (take (a .carried) (signalling.tens (a .periods)))
 
-abbrev pub signallingRecord : Found → Trunk → List Coming → List (Mark (List ℕ))
-signallingRecord found t [] = []
-signallingRecord found t (c ∷ cs) = seizedMarks (toldOf 2 found t c .seized) ++ signallingRecord found (toldOf 2 found t c .trunk) cs
+abbrev pub signallingMarks : List Told → List (Mark (List ℕ))
+signallingMarks [] = []
+signallingMarks (x ∷ xs) = seizedMarks (x .seized) ++ signallingMarks xs
 
--- the others bring no digits, no signalling: they read as another content, or are refused
+-- the others bring no digits, no signalling: they read as another content, or reading refuses them
 abbrev pub NoDigits : Found → List Coming → Type 0
 NoDigits found [] = Unit
 NoDigits found (came p ∷ cs) = NoDigits found cs
@@ -104,7 +107,7 @@ abbrev pub TrunkDigitsCarried : Type 0
 TrunkDigitsCarried =
     (found : Found) (entries : List dialling-entry.Entry) (first second : List Coming)
     → DigitsGiven found entries first second
-    → BothTake (digits.periodOf entries) (arrivals first) (digitRecord found freshTrunk first) (numbersOf 1 found freshTrunk first) (arrivals second) (digitRecord found freshTrunk second) (numbersOf 1 found freshTrunk second)
+    → BothTake (digits.periodOf entries) (arrivals first) (digitMarks (tellings 1 found freshTrunk first)) (numbersIn first (tellings 1 found freshTrunk first)) (arrivals second) (digitMarks (tellings 1 found freshTrunk second)) (numbersIn second (tellings 1 found freshTrunk second))
 
 -- The same of signalling (Signalling.antt).
 pub record SignallingGiven (found : Found) (start : ℕ) (entries : List seizing-entry.Entry) (first second : List Coming) : Type 0 where
@@ -123,4 +126,4 @@ abbrev pub TrunkSignallingCarried : Type 0
 TrunkSignallingCarried =
     (found : Found) (start : ℕ) (entries : List seizing-entry.Entry) (first second : List Coming)
     → SignallingGiven found start entries first second
-    → BothTake (signalling.periodOf start entries) (arrivals first) (signallingRecord found freshTrunk first) (numbersOf 2 found freshTrunk first) (arrivals second) (signallingRecord found freshTrunk second) (numbersOf 2 found freshTrunk second)
+    → BothTake (signalling.periodOf start entries) (arrivals first) (signallingMarks (tellings 2 found freshTrunk first)) (numbersIn first (tellings 2 found freshTrunk first)) (arrivals second) (signallingMarks (tellings 2 found freshTrunk second)) (numbersIn second (tellings 2 found freshTrunk second))

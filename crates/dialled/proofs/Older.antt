@@ -1,40 +1,29 @@
 -- The claims of specs/Claims.antt, by what reading gives and by the step.
-use Prim.Native.Nat.{ℕ, _<_}
+use Prim.Native.Nat.{ℕ, _<_, _≤_}
 use mathlib.Core.Path.{_≡_, refl, sym, ap, _∙_}
-use mathlib.Core.List.{List, [], _∷_}
-use mathlib.Core.Bool.{true, false, not}
+use mathlib.Core.List.{List}
+use mathlib.Core.Bool.{false}
+use mathlib.Core.Logic.{⊎-elim}
 use native.Mathlib.Omega.{arith}
-use borrow.Author.Tests.{le-ltb, ltb-true, ltb-false}
-use lib.Dec.{ltb, eqb}
-use lib.ListN.{length}
-use Rattle.refusal.specs.Numbers.{sound, lengthWrong, reservedCode, valueOutOfRange, olderPayload}
-use Rattle.refusal.specs.Order.{_gives_}
-use Rattle.refusal.proofs.Order as order
-use Rattle.octets.proofs.Order.{either}
+use Rattle.refusal.specs.Numbers.{sound, olderPayload}
+use Rattle.octets.proofs.Order.{lt-or-le}
 use Rattle.digits.specs.declared.layout.Digits.{Digits}
 use Rattle.digits.specs.declared.layout.DigitsRead.{DigitsRead}
 use Rattle.digits.specs.declared.layout.DigitsRead.the-variants.{Dialled, BadDigits}
-use Rattle.digits.specs.Layout.{anyReserved, windowsWrong, digitsIn, digitsRead}
+use Rattle.digits.specs.Layout.{digitsRead}
+use Rattle.digits.proofs.Numbers.{numberIn, reads-below}
 use Rattle.dialled.specs.declared.Receiver.{Receiver}
 use Rattle.dialled.specs.declared.Received.{Received}
 use Rattle.dialled.specs.Receiver.{farthest, stepFrom, passedOver, received}
 use Rattle.dialled.specs.Claims.{Older}
 use Rattle.dialled.proofs.ReceiverCases.{late, in-time, received-by}
 
-abbrev numberIn : DigitsRead → ℕ
-numberIn (Dialled d) = sound
-numberIn (BadDigits number) = number
-
 abbrev numberOf : Received → ℕ
 numberOf x = x .number
 
 not-read : (payload : List ℕ) → digitsRead payload ≡ BadDigits olderPayload → ⊥
-unfolding digitsRead
 not-read payload e =
-    let low = order.below numberIn BadDigits (Dialled (digitsIn payload)) olderPayload (λ n. refl) (omega arith)
-    (not (eqb (length payload) 8) gives lengthWrong ∷ anyReserved payload gives reservedCode ∷ windowsWrong (digitsIn payload) gives valueOutOfRange ∷ [])
-    (tt, (tt, (tt, tt)))
-    in
+    let low : numberIn (digitsRead payload) < olderPayload = reads-below payload in
     let same : numberIn (digitsRead payload) ≡ olderPayload = ap numberIn e in
     omega (arith, low, same)
 
@@ -43,17 +32,13 @@ module _ (r : Receiver) (payload : List ℕ) (d : Digits) (is : digitsRead paylo
   beyond : farthest < stepFrom r (d .sequence) → received r payload ≡ passedOver r olderPayload
   beyond less = received-by r payload (Dialled d) is ∙ late r d (stepFrom r (d .sequence)) less
 
-  within : ltb farthest (stepFrom r (d .sequence)) ≡ false → received r payload .number ≡ sound
-  within t = ap numberOf (received-by r payload (Dialled d) is ∙ in-time r d (stepFrom r (d .sequence)) (ltb-false farthest (stepFrom r (d .sequence)) t))
+  within : stepFrom r (d .sequence) ≤ farthest → received r payload .number ≡ sound
+  within most = ap numberOf (received-by r payload (Dialled d) is ∙ in-time r d (stepFrom r (d .sequence)) most)
 
   told : received r payload .number ≡ olderPayload → farthest < stepFrom r (d .sequence)
   told e =
-      let step : ℕ = stepFrom r (d .sequence) in
-      either
-      (λ (t : ltb farthest step ≡ true). ltb-true farthest step t)
-      (λ (t : ltb farthest step ≡ false). let z : _≡_ {A = ℕ} sound olderPayload = sym (within t) ∙ e in absurd (omega arith))
-      (ltb farthest step)
-      refl
+      ⊎-elim (λ less. less) (λ most. let z : _≡_ {A = ℕ} sound olderPayload = sym (within most) ∙ e in absurd (omega arith))
+      (lt-or-le farthest (stepFrom r (d .sequence)))
 
 stands : (r : Receiver) (payload : List ℕ) → (received r payload .number ≡ sound → ⊥) → received r payload ≡ passedOver r (received r payload .number)
 stands r payload h = go (digitsRead payload) refl
@@ -64,12 +49,8 @@ stands r payload h = go (digitsRead payload) refl
     go : (read : DigitsRead) → digitsRead payload ≡ read → received r payload ≡ passedOver r (received r payload .number)
     go (BadDigits number) is = passed number (received-by r payload (BadDigits number) is)
     go (Dialled d) is =
-        let step : ℕ = stepFrom r (d .sequence) in
-        either
-        (λ (t : ltb farthest step ≡ true). passed olderPayload (beyond r payload d is (ltb-true farthest step t)))
-        (λ (t : ltb farthest step ≡ false). absurd (h (within r payload d is t)))
-        (ltb farthest step)
-        refl
+        ⊎-elim (λ less. passed olderPayload (beyond r payload d is less)) (λ most. absurd (h (within r payload d is most)))
+        (lt-or-le farthest (stepFrom r (d .sequence)))
 
 first : (r : Receiver) (payload : List ℕ) → r .heard ≡ false → received r payload .number ≡ olderPayload → ⊥
 first r payload fresh e = go (digitsRead payload) refl
@@ -87,7 +68,7 @@ older =
       after-reading = λ r payload number is. received-by r payload (BadDigits number) is;
       not-read = not-read;
       exactly = λ r payload d is. (told r payload d is, λ less. ap numberOf (beyond r payload d is less));
-      else-taken = λ r payload d is most. within r payload d is (le-ltb farthest (stepFrom r (d .sequence)) most);
+      else-taken = within;
       stands = stands;
       first = first;
     }

@@ -1,2 +1,3 @@
 pub mod LayoutCases
 pub mod LayoutBack
+pub mod Numbers

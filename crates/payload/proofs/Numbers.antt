@@ -2,11 +2,10 @@
 use Prim.Native.Nat.{ℕ, _<_}
 use mathlib.Core.Path.{refl}
 use mathlib.Core.List.{List, [], _∷_}
-use mathlib.Core.Bool.{not}
 use native.Mathlib.Omega.{arith}
 use lib.Dec.{ltb, eqb}
 use lib.ListN.{length}
-use Rattle.refusal.specs.Numbers.{lengthWrong, reservedCode, valueOutOfRange, edgeWithoutChange}
+use Rattle.refusal.specs.Numbers.{lengthWrong, reservedCode, olderPayload}
 use Rattle.refusal.specs.Order.{_gives_}
 use Rattle.refusal.proofs.Order.{below}
 use Rattle.octets.proofs.Order.{picked}
@@ -31,7 +30,8 @@ use Rattle.fax.specs.Fax.{faxRead}
 use Rattle.fax.specs.Fax as fax
 use Rattle.digits.specs.declared.layout.DigitsRead.{DigitsRead}
 use Rattle.digits.specs.declared.layout.DigitsRead.the-variants.{Dialled, BadDigits}
-use Rattle.digits.specs.Layout.{anyReserved, windowsWrong, digitsIn, digitsRead}
+use Rattle.digits.specs.Layout.{digitsRead}
+use Rattle.digits.proofs.Numbers.{numberIn, reads-below}
 use Rattle.signalling.specs.declared.layout.SignallingRead.{SignallingRead}
 use Rattle.signalling.specs.Layout.{signallingRead}
 use Rattle.payload.specs.declared.layout.Family.{Family}
@@ -42,17 +42,20 @@ use Rattle.payload.specs.Content.{readAs, numberOf, ofVoice, ofDigits, o
 use Rattle.payload.specs.Claims.{ReadingGives}
 
 abbrev Low : Reading → Type 0
-Low x = numberOf x < edgeWithoutChange
+Low x = numberOf x < olderPayload
 
 -- under each layout
 low-voice : (r : Record) (p : List ℕ) → Low (ofVoice p (voiceRead r p))
 unfolding voiceRead
 low-voice r p =
-    below (λ (x : VoiceRead). numberOf (ofVoice p x)) BadVoice _ edgeWithoutChange (λ n. refl) (omega arith) (voice.readRefusals r p) (tt, (tt, (tt, (tt, (tt, (tt, tt))))))
+    below (λ (x : VoiceRead). numberOf (ofVoice p x)) BadVoice _ olderPayload (λ n. refl) (omega arith) (voice.readRefusals r p) (tt, (tt, (tt, (tt, (tt, (tt, tt))))))
 
 low-digits : (p : List ℕ) → Low (ofDigits (digitsRead p))
-unfolding digitsRead
-low-digits p = below (λ (x : DigitsRead). numberOf (ofDigits x)) BadDigits (Dialled (digitsIn p)) edgeWithoutChange (λ n. refl) (omega arith) (not (eqb (length p) 8) gives lengthWrong ∷ anyReserved p gives reservedCode ∷ windowsWrong (digitsIn p) gives valueOutOfRange ∷ []) (tt, (tt, (tt, tt)))
+low-digits p = go (digitsRead p) (reads-below p)
+  where
+    go : (x : DigitsRead) → numberIn x < olderPayload → Low (ofDigits x)
+    go (Dialled d) less = less
+    go (BadDigits n) less = less
 
 low-signalling : (p : List ℕ) → Low (ofSignalling (signallingRead p))
 unfolding signallingRead
@@ -60,15 +63,15 @@ low-signalling p = picked (λ (x : SignallingRead). Low (ofSignalling x)) (eqb (
 
 low-fax : (p : List ℕ) → Low (ofFax p (faxRead p))
 unfolding faxRead
-low-fax p = below (λ (x : FaxRead). numberOf (ofFax p x)) BadFax (Fax (fax.sequenceIn p) (fax.stampIn p) (fax.commandIn p) (fax.frontOf (fax.stampIn p) (fax.commandIn p))) edgeWithoutChange (λ n. refl) (omega arith) (fax.readRefusals p (fax.stampIn p) (fax.commandIn p)) (tt, (tt, (tt, (tt, (tt, (tt, (tt, (tt, tt))))))))
+low-fax p = below (λ (x : FaxRead). numberOf (ofFax p x)) BadFax (Fax (fax.sequenceIn p) (fax.stampIn p) (fax.commandIn p) (fax.frontOf (fax.stampIn p) (fax.commandIn p))) olderPayload (λ n. refl) (omega arith) (fax.readRefusals p (fax.stampIn p) (fax.commandIn p)) (tt, (tt, (tt, (tt, (tt, (tt, (tt, (tt, tt))))))))
 
 low-sid : (syntax : Syntax) (p : List ℕ) → Low (ofSid (sidRead syntax p))
 unfolding sidRead
-low-sid syntax p = below (λ (x : SidRead). numberOf (ofSid x)) BadSid _ edgeWithoutChange (λ n. refl) (omega arith) (sid.readRefusals syntax p) (tt, (tt, tt))
+low-sid syntax p = below (λ (x : SidRead). numberOf (ofSid x)) BadSid _ olderPayload (λ n. refl) (omega arith) (sid.readRefusals syntax p) (tt, (tt, tt))
 
 low-data : (p : List ℕ) → Low (ofData p (dataRead p))
 unfolding dataRead
-low-data p = below (λ (x : DataRead). numberOf (ofData p x)) BadData (Fragment (fragment.beginsIn p) (fragment.endsIn p) (fragment.sequenceIn p)) edgeWithoutChange (λ n. refl) (omega arith) (ltb (length p) 3 gives lengthWrong ∷ fragment.thirdBit p gives reservedCode ∷ []) (tt, (tt, tt))
+low-data p = below (λ (x : DataRead). numberOf (ofData p x)) BadData (Fragment (fragment.beginsIn p) (fragment.endsIn p) (fragment.sequenceIn p)) olderPayload (λ n. refl) (omega arith) (ltb (length p) 3 gives lengthWrong ∷ fragment.thirdBit p gives reservedCode ∷ []) (tt, (tt, tt))
 
 -- and where there is none
 abbrev Lows : List ℕ → Layout → Type 0

@@ -4,7 +4,7 @@ use Prim.Native.Nat.{ℕ, _<_}
 use mathlib.Core.Path.{_≡_}
 use mathlib.Core.List.{List}
 use lib.ListN.{length}
-use Rattle.refusal.specs.Numbers.{edgeWithoutChange}
+use Rattle.refusal.specs.Numbers.{olderPayload}
 use Rattle.octets.specs.Octets.{Octets}
 use Rattle.octets.specs.Made.{made}
 use Rattle.record.specs.declared.table.Found.{Found}
@@ -56,6 +56,7 @@ ContentMadeAgain =
     → payloadRead found ptype octets ≡ reads content
     → Again found ptype octets content
 
--- Reading a payload, and so checking and listing it, gives 0 or a number up to 16: never 19, nor 41 or 42, which are a receiver's.
+-- Reading a payload, and so checking and listing it, gives a number below 19: that is the receivers' (document 02, wish 3), as 41
+-- and 42 are the fax replay's.
 abbrev pub ReadingGives : Type 0
-ReadingGives = (found : Found) (ptype : ℕ) (p : List ℕ) → numberOf (payloadRead found ptype p) < edgeWithoutChange
+ReadingGives = (found : Found) (ptype : ℕ) (p : List ℕ) → numberOf (payloadRead found ptype p) < olderPayload

@@ -113,7 +113,9 @@ costs =
     record {
       long-loss = refl;
       long-loss-of-digits = refl;
+      at-rest = refl;
       begun-anew = refl;
+      begun-anew-ahead = refl;
       too-far-behind = refl;
       gets-less = refl;
       gets-more = refl;

@@ -9,7 +9,7 @@ use lib.Dec.{ltb, eqb}
 use lib.ListN.{length}
 use Rattle.octets.proofs.Order.{either}
 use Rattle.replay.specs.Examples.{picked, at, chosen}
-use Rattle.replay.specs.Periods.{freshFrom, freshOf, dueFrom, soundOf, Near, BehindFrom, Rising, isIn, Among, Sublist, none-left, left-out, taken, In, here, further, AllIn}
+use Rattle.replay.specs.Periods.{freshFrom, freshOf, dueFrom, soundOf, Near, BehindFrom, isIn, Among, Sublist, none-left, left-out, taken, In, here, further, AllIn}
 use Rattle.replay.specs.Claims.{Arriving, FreshAreSound}
 use Rattle.replay.proofs.Ranges.{map-append}
 
@@ -17,15 +17,15 @@ abbrev pub Each : {A : Type 0} → (A → Type 0) → List A → Type 0
 Each P [] = Unit
 Each P (x ∷ xs) = P x × Each P xs
 
-pub each-some : {A : Type 0} (P : A → Type 0) (xs ys : List A) → Sublist xs ys → Each P ys → Each P xs
-each-some P xs ys none-left e = tt
-each-some P xs ys (left-out {xs = rest} {ys = more} s) e = each-some P rest more s (e .1)
-each-some P xs ys (taken {xs = rest} {ys = more} s) e = (e .0, each-some P rest more s (e .1))
-
 pub sublist-map : {A B : Type 0} (f : A → B) (xs ys : List A) → Sublist xs ys → Sublist (map f xs) (map f ys)
 sublist-map f xs ys none-left = none-left
 sublist-map f xs ys (left-out {xs = rest} {ys = more} s) = left-out (sublist-map f rest more s)
 sublist-map f xs ys (taken {xs = rest} {ys = more} s) = taken (sublist-map f rest more s)
+
+-- In order, from a number on. A static repeat counts as the payload it repeats, so a number may come again.
+abbrev pub Rising : ℕ → List ℕ → Type 0
+Rising a [] = Unit
+Rising a (b ∷ bs) = (a ≤ b) × Rising b bs
 
 pub rising-from : (a b : ℕ) (xs : List ℕ) → a ≤ b → Rising b xs → Rising a xs
 rising-from a b [] low r = tt

@@ -146,7 +146,8 @@ pub record BothReplay {A : Type 0} (S : ℕ → A) (arrivals : List ℕ) (marks 
   pub second : Replays S arrivals2 marks2
   pub keeps : Keeps arrivals marks arrivals2 marks2
 
--- And as document 02, wish 3, reads it, of all that arrived: the fresh ones are replayed, and each receiver answers as they tell.
+-- And as document 02, wish 3, reads it, of all that arrived: the fresh ones are replayed, and each receiver answers 0 to
+-- exactly these and 19 to the others.
 pub record BothTake {A : Type 0} (S : ℕ → A) (arrivals : List ℕ) (marks : List (Mark A)) (numbers : List ℕ) (arrivals2 : List ℕ) (marks2 : List (Mark A)) (numbers2 : List ℕ) : Type 0 where
   pub both : BothReplay S (freshOf arrivals) marks (freshOf arrivals2) marks2
   pub answers : numbers ≡ dueOf arrivals

@@ -5,10 +5,11 @@ use mathlib.Core.Path.{_≡_}
 use mathlib.Core.List.{List, [], _∷_, _++_, map}
 use mathlib.Core.Bool.{Bool, true, false, cond}
 use mathlib.Core.Option.{Option, none, some}
+use lib.ListN.{replicate}
 use Rattle.refusal.specs.Numbers.{sound, olderPayload}
 use Rattle.counts.specs.Round.{step}
 use Rattle.replay.specs.Rule.{stepTaken, older}
-use Rattle.replay.specs.Periods.{Payload, pay, Mark, heldAt}
+use Rattle.replay.specs.Periods.{Payload, pay, Mark, heldAt, range}
 use Rattle.replay.specs.Claims.{Receiver, byStep, recordOf, answersOf, Replays, ByRule}
 
 pub record Bare : Type 0 where
@@ -48,8 +49,8 @@ answered k far arrivals = answersOf (bare k far) some unheard (map (pay k number
 abbrev pub BareByRule : Type 0
 BareByRule = (k far : ℕ) → ByRule k far (bare k far) some
 
--- The payloads number 1 and n + 1, with a static repeat of each, and 0 behind them: the most that two fresh arrivals may be apart
--- is the farthest step n, and the most that one may be behind is n + 1, where both fill the modulus.
+-- The payloads number 1 and n + 1, with a static repeat of each, and 0 behind them: two fresh arrivals n apart, the farthest step,
+-- and one n + 1 behind. With n = 63 in 7 bits and 127 in 8 these are the bounds of the wish.
 abbrev pub FarthestReplays : Type 0
 FarthestReplays =
     (k n : ℕ)
@@ -85,15 +86,19 @@ OneMoreBehindFails =
 
 -- What the wish costs, in 7 bits with a farthest step of 63 and in 8 bits with 127.
 pub record Costs : Type 0 where
-  -- After 63 or 127 payloads lost in a row what follows is taken as older until the numbers come round: 64 to 127 are, 128 counts as
-  -- 0 again, and 129 is then replayed as if it were 1.
-  pub long-loss : answered 7 63 (0 ∷ 64 ∷ 65 ∷ 127 ∷ 128 ∷ 129 ∷ []) ≡ sound ∷ olderPayload ∷ olderPayload ∷ olderPayload ∷ sound ∷ sound ∷ []
-  pub long-loss-of-digits : answered 8 127 (0 ∷ 128 ∷ 129 ∷ 255 ∷ 256 ∷ 257 ∷ []) ≡ sound ∷ olderPayload ∷ olderPayload ∷ olderPayload ∷ sound ∷ sound ∷ []
-  -- A sender that begins anew at 0 is taken as older up to the last number, which was 40 here: that counts as a step of 0.
-  pub begun-anew : answered 7 63 (40 ∷ 0 ∷ 1 ∷ 24 ∷ 39 ∷ 40 ∷ 41 ∷ []) ≡ sound ∷ olderPayload ∷ olderPayload ∷ olderPayload ∷ olderPayload ∷ sound ∷ sound ∷ []
-  -- One payload 65 behind is taken as fresh, and then 101 to 162 as older; 163 counts as a step of 0.
-  pub too-far-behind : answered 7 63 (100 ∷ 35 ∷ 101 ∷ 102 ∷ 162 ∷ 163 ∷ []) ≡ sound ∷ sound ∷ olderPayload ∷ olderPayload ∷ olderPayload ∷ sound ∷ []
-  -- And a receiver that gets more may carry less: where 9 overtakes 5, the periods 5, 6 and 7 are lost.
+  -- After 63 or 127 payloads lost in a row what follows is taken as older until the numbers come round: the one a whole round ahead
+  -- counts as a step of 0, and the next is then replayed as a step of 1.
+  pub long-loss : answered 7 63 (0 ∷ range 64 64 ++ 128 ∷ 129 ∷ []) ≡ sound ∷ replicate 64 olderPayload ++ sound ∷ sound ∷ []
+  pub long-loss-of-digits : answered 8 127 (0 ∷ range 128 128 ++ 256 ∷ 257 ∷ []) ≡ sound ∷ replicate 128 olderPayload ++ sound ∷ sound ∷ []
+  -- A line at rest repeats one number: 64 ahead, it is older each time.
+  pub at-rest : answered 7 63 (0 ∷ 64 ∷ 64 ∷ 64 ∷ []) ≡ sound ∷ olderPayload ∷ olderPayload ∷ olderPayload ∷ []
+  -- A sender that begins anew at 0 is taken as older up to the last number, which counts as a step of 0; where that was above 64, at
+  -- once as ahead.
+  pub begun-anew : answered 7 63 (40 ∷ range 0 40 ++ 40 ∷ 41 ∷ []) ≡ sound ∷ replicate 40 olderPayload ++ sound ∷ sound ∷ []
+  pub begun-anew-ahead : answered 7 63 (65 ∷ 0 ∷ 1 ∷ []) ≡ sound ∷ sound ∷ sound ∷ []
+  -- One payload 65 behind is taken as fresh, and then 62 as older; the next counts as a step of 0.
+  pub too-far-behind : answered 7 63 (100 ∷ 35 ∷ range 101 62 ++ 163 ∷ []) ≡ sound ∷ sound ∷ replicate 62 olderPayload ++ sound ∷ []
+  -- And a receiver that gets more may carry less: where 9 overtakes 5, the three periods that 5 carries are filled.
   pub gets-less : map (heldAt 0 (marksOf 7 63 (0 ∷ 5 ∷ []))) (5 ∷ 6 ∷ 7 ∷ []) ≡ some 5 ∷ some 6 ∷ some 7 ∷ []
   pub gets-more : map (heldAt 0 (marksOf 7 63 (0 ∷ 9 ∷ 5 ∷ []))) (5 ∷ 6 ∷ 7 ∷ []) ≡ none ∷ none ∷ none ∷ []
 

@@ -80,7 +80,7 @@ abbrev pub dueOf : List ℕ → List ℕ
 dueOf [] = []
 dueOf (a ∷ more) = sound ∷ dueFrom a more
 
--- of arrivals, those that are answered so with 0
+-- of arrivals, those beside whose number in the other list stands 0
 abbrev pub soundOf : List ℕ → List ℕ → List ℕ
 soundOf [] arrivals = []
 soundOf (n ∷ ns) [] = []
@@ -103,11 +103,6 @@ BehindFrom back a (b ∷ bs) = (a ≤ b + back) × BehindFrom back (cond (ltb b 
 abbrev pub Behind : ℕ → List ℕ → Type 0
 Behind back [] = Unit
 Behind back (a ∷ more) = BehindFrom back a more
-
--- In order, from a number on: then all are fresh. A static repeat counts as the payload it repeats, so a number may come again.
-abbrev pub Rising : ℕ → List ℕ → Type 0
-Rising a [] = Unit
-Rising a (b ∷ bs) = (a ≤ b) × Rising b bs
 
 -- Each number of the first list is one of the second.
 abbrev pub isIn : ℕ → List ℕ → Bool

@@ -1,15 +1,14 @@
 -- The claims of specs/Claims.antt, by what reading gives and by the step.
-use Prim.Native.Nat.{ℕ, _<_}
+use Prim.Native.Nat.{ℕ, _<_, _≤_}
 use mathlib.Core.Path.{_≡_, refl, sym, ap, _∙_}
 use mathlib.Core.List.{List}
 use mathlib.Core.Bool.{true, false}
 use mathlib.Core.Logic.{⊎-elim}
 use native.Mathlib.Omega.{arith}
-use borrow.Author.Tests.{le-ltb, ltb-true, ltb-false}
-use lib.Dec.{ltb, eqb}
+use lib.Dec.{eqb}
 use lib.ListN.{length}
 use Rattle.refusal.specs.Numbers.{sound, lengthWrong, olderPayload}
-use Rattle.octets.proofs.Order.{either, eq-or-ne}
+use Rattle.octets.proofs.Order.{either, eq-or-ne, lt-or-le}
 use Rattle.signalling.specs.Layout.{signallingRead}
 use Rattle.seized.specs.declared.Receiver.{Receiver}
 use Rattle.seized.specs.declared.Received.{Received}
@@ -38,16 +37,11 @@ module _ (r : Receiver) (payload : List ℕ) where
     beyond : farthest < step → received r payload ≡ passedOver r olderPayload
     beyond less = accepted r payload (signallingRead payload) refl reads ∙ late r (signallingRead payload .signalling) step less
 
-    within : ltb farthest step ≡ false → received r payload .number ≡ sound
-    within t = ap numberOf (accepted r payload (signallingRead payload) refl reads ∙ in-time r (signallingRead payload .signalling) step (ltb-false farthest step t))
+    within : step ≤ farthest → received r payload .number ≡ sound
+    within most = ap numberOf (accepted r payload (signallingRead payload) refl reads ∙ in-time r (signallingRead payload .signalling) step most)
 
     told : received r payload .number ≡ olderPayload → farthest < step
-    told e =
-        either
-        (λ (t : ltb farthest step ≡ true). ltb-true farthest step t)
-        (λ (t : ltb farthest step ≡ false). let z : _≡_ {A = ℕ} sound olderPayload = sym (within t) ∙ e in absurd (omega arith))
-        (ltb farthest step)
-        refl
+    told e = ⊎-elim (λ less. less) (λ most. let z : _≡_ {A = ℕ} sound olderPayload = sym (within most) ∙ e in absurd (omega arith)) (lt-or-le farthest step)
 
   unread : (signallingRead payload .number ≡ sound → ⊥) → received r payload ≡ passedOver r (signallingRead payload .number)
   unread wrong = refused r payload (signallingRead payload) refl wrong
@@ -58,12 +52,7 @@ module _ (r : Receiver) (payload : List ℕ) where
   stands : (received r payload .number ≡ sound → ⊥) → received r payload ≡ passedOver r (received r payload .number)
   stands h =
       ⊎-elim
-      (λ reads.
-      either
-      (λ (t : ltb farthest step ≡ true). passed olderPayload (beyond reads (ltb-true farthest step t)))
-      (λ (t : ltb farthest step ≡ false). absurd (h (within reads t)))
-      (ltb farthest step)
-      refl)
+      (λ reads. ⊎-elim (λ less. passed olderPayload (beyond reads less)) (λ most. absurd (h (within reads most))) (lt-or-le farthest step))
       (λ wrong. passed (signallingRead payload .number) (unread wrong))
       (eq-or-ne (signallingRead payload .number) sound)
 
@@ -83,7 +72,7 @@ older =
       after-reading = unread;
       not-read = not-read;
       exactly = λ r payload reads. (told r payload reads, λ less. ap numberOf (beyond r payload reads less));
-      else-taken = λ r payload reads most. within r payload reads (le-ltb farthest (step r payload) most);
+      else-taken = within;
       stands = stands;
       first = first;
     }

@@ -17,7 +17,8 @@ use Rattle.trunk.specs.declared.Trunk.{Trunk}
 use Rattle.trunk.specs.Trunk.{taken, refusing}
 
 -- The number is that of the digit receiver, the signalling receiver or the fax replay under their layouts, and that of reading the
--- payload under every other: so 19, 41 and 42 come from these three alone.
+-- payload under every other: since reading never gives them (`ReadingGives`, payload/specs/Claims.antt), 19, 41 and 42 come from
+-- these three alone.
 pub record Numbers : Type 0 where
   pub digits : (t : Trunk) (found : Found) (ptype : ℕ) (p : List ℕ) → layoutOf found ptype ≡ OfDigits → taken t found ptype p .number ≡ dialled.received (t .digits) p .number
   pub signalling : (t : Trunk) (found : Found) (ptype : ℕ) (p : List ℕ) → layoutOf found ptype ≡ OfSignalling → taken t found ptype p .number ≡ seized.received (t .signalling) p .number
