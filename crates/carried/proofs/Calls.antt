@@ -16,7 +16,6 @@ use Rattle.octets.specs.Made.{Made, made, unmade, octetsOf, putMade, leftMade}
 use Rattle.octets.specs.Room.{put, written, leftBy}
 use Rattle.octets.proofs.Order.{either}
 use Rattle.record.specs.declared.table.Found.{Found}
-use Rattle.digits.specs.declared.layout.Window.{Window}
 use Rattle.digits.specs.declared.layout.Digits as digits-layout
 use Rattle.digits.specs.Layout.{digitsMade}
 use Rattle.signalling.specs.declared.layout.Signalling as signalling-layout
@@ -41,7 +40,7 @@ use Rattle.seized.specs.Receiver as seized
 use Rattle.trunk.specs.declared.Trunk.{Trunk}
 use Rattle.trunk.specs.declared.Told.{Told}
 use Rattle.trunk.specs.Trunk.{freshTrunk, taken}
-use Rattle.replay.specs.Periods.{Mark, AllIn}
+use Rattle.replay.specs.Periods.{AllIn}
 use Rattle.carried.specs.Emissions.{Emission}
 use Rattle.carried.specs.Digits as digits
 use Rattle.carried.specs.Signalling as signalling

@@ -14,7 +14,6 @@ use Rattle.octets.specs.declared.Put.{Put}
 use Rattle.octets.specs.declared.Put.the-variants.{Written}
 use Rattle.octets.specs.Made.{putMade, leftMade}
 use Rattle.record.specs.declared.table.Found.{Found}
-use Rattle.digits.specs.declared.layout.Window.{Window}
 use Rattle.digits.specs.declared.layout.Digits as digits-layout
 use Rattle.signalling.specs.declared.layout.Signalling as signalling-layout
 use Rattle.dialling.specs.declared.Entry as digit-entry
@@ -38,7 +37,7 @@ use Rattle.dialled.specs.Receiver as dialled
 use Rattle.seizing.specs.Sender.{started, sent}
 use Rattle.seized.specs.Receiver as seized
 use Rattle.trunk.specs.Trunk.{freshTrunk, taken}
-use Rattle.replay.specs.Periods.{Mark, freshOf, Among, AllIn}
+use Rattle.replay.specs.Periods.{freshOf, Among, AllIn}
 use Rattle.replay.specs.Claims.{Arriving, BothTake}
 use Rattle.carried.specs.Emissions.{Emission}
 use Rattle.carried.specs.Digits as digits
