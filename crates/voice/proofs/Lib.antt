@@ -1,3 +1,4 @@
 pub mod Sizes
 pub mod VoiceCases
 pub mod VoiceBack
+pub mod Bits

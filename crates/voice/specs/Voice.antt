@@ -24,6 +24,13 @@ pcmOctets = 40 ∷ 35 ∷ 30 ∷ 40 ∷ 35 ∷ 30 ∷ 25 ∷ 20 ∷ 15 ∷ 10 �
 abbrev pub g727Octets : List ℕ
 g727Octets = 10 ∷ 5 ∷ 10 ∷ 15 ∷ 15 ∷ 20 ∷ 25 ∷ 15 ∷ 5 ∷ 10 ∷ 20 ∷ 25 ∷ 20 ∷ 5 ∷ 25 ∷ []
 
+-- The bits of a sample, which are a coding type's kbit/s over 8 (FRF.11, Figures F - 4 and G - 2; document 02, wish 2)
+abbrev pub pcmBits : List ℕ
+pcmBits = 8 ∷ 7 ∷ 6 ∷ 8 ∷ 7 ∷ 6 ∷ 5 ∷ 4 ∷ 3 ∷ 2 ∷ 5 ∷ 4 ∷ 3 ∷ 2 ∷ []
+
+abbrev pub g727Bits : List ℕ
+g727Bits = 2 ∷ 1 ∷ 2 ∷ 3 ∷ 3 ∷ 4 ∷ 5 ∷ 3 ∷ 1 ∷ 2 ∷ 4 ∷ 5 ∷ 4 ∷ 1 ∷ 5 ∷ []
+
 -- How many coding types a syntax has; "bits 4 to 1 coding type, 0000" is one. Data and fax carry no voice.
 abbrev pub codings : Syntax → ℕ
 codings Acelp = 1

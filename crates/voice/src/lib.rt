@@ -7,7 +7,7 @@ use record::syntax::Syntax;
 ghost use mathlib.Core.Path.{_≡_};
 ghost use mathlib.Core.Bool.{true};
 ghost use lib.ListN.{getD};
-ghost use Prim.Native.Nat.{_<_, _≤_};
+ghost use Prim.Native.Nat.{_*_, _/_, _%_, _^_, _<_, _≤_};
 ghost use Rattle.octets.specs.Made.{fitOf, putMade, leftMade};
 ghost use mathlib.Core.List.{_∷_};
 ghost use Rattle.refusal.specs.Numbers.{sound, typeNotAllowed};
@@ -16,10 +16,10 @@ ghost use Rattle.record.specs.declared.syntax.Syntax.the-variants.{Acelp, Pcm, 
 ghost use Rattle.voice.specs.Voice.{codings, pcmOctets, g727Octets, g7231Octets, isG7231, seqFront, frontBy, frontOf, voiceless, bodyRefusals, voiceRead, mostSequence, voiceMade};
 ghost use Rattle.voice.specs.Private.{lengthNumber, blocksNumber};
 
-// The octets of a coding type, of Annex F and of Annex G.
-const PCM_OCTETS: [u8; 14] = [40, 35, 30, 40, 35, 30, 25, 20, 15, 10, 25, 20, 15, 10];
+// The bits of a sample, of Annex F and of Annex G: a hex digit for each coding type, the last one for code 0.
+const PCM_BITS: u64 = 0x2345_2345_678_678;
 
-const G727_OCTETS: [u8; 15] = [10, 5, 10, 15, 15, 20, 25, 15, 5, 10, 20, 25, 20, 5, 25];
+const G727_BITS: u64 = 0x514_54213_5433212;
 
 // What reading a voice payload tells; the body begins behind `front` octets.
 pub enum VoiceRead {
@@ -47,21 +47,27 @@ pub fn coding_count(syntax: Syntax) -> u8
     }
 }
 
-// The octets of a coding type under Annex F, and under Annex G.
+// The octets of a coding type, five times its bits: each bit of forty samples takes five octets.
+fn five_times(bits: u64, coding: u8) -> usize
+    requires { ⌜ coding < 16 ⌝ }
+    ensures { λ r. ⌜ r ≡ bits / 2 ^ (coding * 4) % 16 * 5 ⌝ }
+{
+    ((bits >> (coding * 4)) % 16 * 5) as usize
+}
+
+// The same under Annex F, and under Annex G.
 fn pcm_octets(coding: u8) -> usize
     requires { ⌜ coding < 14 ⌝ }
     ensures { λ r. ⌜ r ≡ getD pcmOctets coding 0 ⌝ }
 {
-    let at = coding as usize;
-    octets::wide(PCM_OCTETS[at])
+    five_times(PCM_BITS, coding)
 }
 
 fn g727_octets(coding: u8) -> usize
     requires { ⌜ coding < 15 ⌝ }
     ensures { λ r. ⌜ r ≡ getD g727Octets coding 0 ⌝ }
 {
-    let at = coding as usize;
-    octets::wide(G727_OCTETS[at])
+    five_times(G727_BITS, coding)
 }
 
 // The refusal number of a body of `len` octets that is to be m blocks of so many octets each.
