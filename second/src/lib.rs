@@ -18,6 +18,9 @@
 //! - `fax_replay`: wish 1, "Fax at the far end"
 //! - `receivers`: wish 3, "Late payloads through a tunnel"
 //!
+//! Wish 2 (enhancement tables in less read-only memory) changes no answer, so it
+//! has no module; `generate::codings` makes the recording that shows it.
+//!
 //! And what belongs to no heading: `trial` (docs/TRIAL.md), `unit`
 //! (docs/UNIT.md), `follow` (docs/FOLLOW.md), `generate` (inputs made from a
 //! seed), `histogram`, and the small helpers `answers`, `hex` and `lines`.

@@ -17,6 +17,7 @@ const USAGE: &str = "usage: second list
        second generate text SEED
        second generate trial SEED COUNT
        second generate unit SEED COUNT
+       second generate codings SEED
        second generate follow SEED COUNT
        second generate fax SEED COUNT
        second histogram
@@ -62,6 +63,7 @@ fn run(words: &[&str]) -> io::Result<bool> {
         ["generate", "unit", seed, count] => {
             generate::unit::run(number(seed)?, number(count)?, output())?
         }
+        ["generate", "codings", seed] => generate::codings::run(number(seed)?, output())?,
         ["generate", "follow", seed, count] => {
             generate::follow::run(number(seed)?, number(count)?, output())?
         }

@@ -89,11 +89,12 @@ fn fax_is_followed() {
 
 #[test]
 fn the_generators_give_the_same_every_time() {
-    let commands: [&[&str]; 6] = [
+    let commands: [&[&str]; 7] = [
         &["generate", "list", "7", "500"],
         &["generate", "text", "12"],
         &["generate", "trial", "7", "500"],
         &["generate", "unit", "7", "500"],
+        &["generate", "codings", "7"],
         &["generate", "follow", "7", "500"],
         &["generate", "fax", "7", "100"],
     ];
@@ -159,12 +160,14 @@ fn a_generated_fax_recording_is_followed_by_its_first_cid_and_counted() {
 
 #[test]
 fn a_wrong_command_line_is_told() {
-    let wrong: [&[&str]; 20] = [
+    let wrong: [&[&str]; 22] = [
         &[],
         &["lists"],
         &["generate", "list", "x", "1"],
         &["generate", "text"],
         &["generate", "unit", "1"],
+        &["generate", "codings"],
+        &["generate", "codings", "1", "1"],
         &["generate", "follow", "1", "1", "1"],
         &["generate", "fax", "1"],
         &["generate", "fax", "1", "-1"],

@@ -1,5 +1,6 @@
 //! Inputs made from a seed alone, for this program and the other one.
 
+pub mod codings;
 pub mod contents;
 pub mod fax;
 pub mod fax_calls;

@@ -7,7 +7,7 @@ use super::drawn::{as_it_comes_back, wanted_number, ContentDrawer};
 use super::fax::{Command, Fax};
 use super::sid::Sid;
 use super::signalling::Signalling;
-use super::voice::Voice;
+use super::voice::{Voice, G727_OCTETS, PCM_OCTETS};
 use super::*;
 use crate::generate::payloads::Drawer;
 use crate::generate::records::{kinds, record, records};
@@ -116,12 +116,58 @@ fn without_seq_the_first_octet_is_voice() {
     }
 }
 
+/// FRF.11 figure F - 4, "Compression Bit Rate (kbit/s)": pcm by coding type.
+const PCM_RATES: [usize; 14] = [64, 56, 48, 64, 56, 48, 40, 32, 24, 16, 40, 32, 24, 16];
+/// FRF.11 figure G - 2, the same column: g727 by coding type.
+const G727_RATES: [usize; 15] = [16, 8, 16, 24, 24, 32, 40, 24, 8, 16, 32, 40, 32, 8, 40];
+
+#[test]
+fn wish_2_the_octets_are_five_times_the_bits_per_sample() {
+    // 8,000 samples a second; an interval of 5 ms has 40, five octets for each bit.
+    let worked_out = |rates: &[usize]| -> Vec<usize> {
+        assert!(rates.iter().all(|rate| rate % 8 == 0));
+        rates.iter().map(|rate| 5 * (rate / 8)).collect()
+    };
+    assert_eq!(PCM_OCTETS.to_vec(), worked_out(&PCM_RATES));
+    assert_eq!(G727_OCTETS.to_vec(), worked_out(&G727_RATES));
+    assert_eq!((PCM_OCTETS.len(), G727_OCTETS.len()), (14, 15));
+}
+
+#[test]
+fn wish_2_worked_lengths() {
+    // Syntax, m, coding type, octets of the payload with its front octet.
+    for (syntax, m, code, octets) in [
+        (Syntax::Pcm, 4, 7, 81),
+        (Syntax::Pcm, 12, 0, 481),
+        (Syntax::Pcm, 1, 13, 11),
+        (Syntax::G727, 1, 13, 6),
+        (Syntax::G727, 12, 14, 301),
+        (Syntax::G727, 1, 0, 11),
+        (Syntax::G727, 1, 3, 16),
+        (Syntax::G727, 1, 7, 16),
+        (Syntax::G727, 1, 12, 21),
+    ] {
+        let not_in_table = if syntax == Syntax::Pcm { 14 } else { 15 };
+        for length in octets - 1..=octets + 1 {
+            let of_code = |code| {
+                let mut payload = zeros(length);
+                payload[0] = code;
+                answer(&one(syntax, m, 1), 0, &payload)
+            };
+            let wanted = if length == octets { 0 } else { 13 };
+            assert_eq!(of_code(code), wanted, "{syntax:?} {m} {code} {length}");
+            assert_eq!(of_code(not_in_table), 16, "{syntax:?} {m} {length}");
+        }
+    }
+    assert_eq!(answer_hex(&one(Syntax::Pcm, 1, 1), 0, "0e"), 16);
+    assert_eq!(answer_hex(&one(Syntax::G727, 1, 1), 0, "0f"), 16);
+}
+
 #[test]
 fn pcm_and_g727_by_coding_type() {
-    // FRF.11 figures F - 4 and G - 2, in kbit/s: an interval of 5 ms has 5/8 of it.
-    let pcm = [64, 56, 48, 64, 56, 48, 40, 32, 24, 16, 40, 32, 24, 16];
-    let g727 = [16, 8, 16, 24, 24, 32, 40, 24, 8, 16, 32, 40, 32, 8, 40];
-    for (syntax, rates) in [(Syntax::Pcm, &pcm[..]), (Syntax::G727, &g727[..])] {
+    // An interval of 5 ms has 5/8 of the rate.
+    let (pcm, g727) = (&PCM_RATES[..], &G727_RATES[..]);
+    for (syntax, rates) in [(Syntax::Pcm, pcm), (Syntax::G727, g727)] {
         for m in 1..=12 {
             let table = one(syntax, m, 1);
             for code in 0..16u8 {
