@@ -1,36 +1,118 @@
 -- The octets of a coding type are five times its bits, which stand in one number, a hex digit of it for each coding type.
-use Prim.Native.Nat.{ℕ, zero, suc, _+_, _*_, _/_, _%_, _^_, _≤_}
+use Prim.Native.Nat.{ℕ, zero, suc, _+_, _*_, _/_, _%_, _^_, _≤_, _<_}
 use mathlib.Core.Path.{_≡_, refl, sym, ap, _∙_}
+use mathlib.Core.Bool.{Bool, true, false}
 use mathlib.Core.List.{List, [], _∷_, map}
 use native.Mathlib.Nat.{div-div-eq-div-mul, zero-div}
 use native.Mathlib.Omega.{arith}
-use lib.ListN.{getD, List·getD-map}
+use lib.Dec.{T}
+use lib.ListN.{length, getD, List·getD-map, List·getD-eq-default}
 use lib.Pow.{pow-add}
+use Rattle.octets.proofs.Table.{atMost, entries}
+use Rattle.record.specs.declared.syntax.Syntax.{Syntax}
+use Rattle.record.specs.declared.syntax.Syntax.the-variants.{Acelp, Pcm, G727, G728, G7231, Data, Fax}
+use Rattle.record.specs.Record.{place}
+use Rattle.voice.specs.Voice.{pcmBits, g727Bits, codings, blockOctets, isG7231, voiceless}
+use Rattle.voice.specs.Private.{packed, bitsAt}
 use Rattle.voice.specs.Claims.{FiveTimesBits}
 
 pub five-times-bits : FiveTimesBits
 five-times-bits = record { pcm = refl; g727 = refl }
 
--- a list of hex digits as one number, the first digit last
-abbrev pub packed : List ℕ → ℕ
-packed [] = 0
-packed (n ∷ ns) = packed ns * 16 + n
-
-digit : (ns : List ℕ) → ((i : ℕ) → getD ns i 0 ≤ 15) → (i : ℕ) → packed ns / 2 ^ (i * 4) % 16 ≡ getD ns i 0
-digit [] hex i = rw (zero-div (2 ^ (i * 4)))
-digit (n ∷ ns) hex zero = let small : n ≤ 15 = hex 0 in omega arith
-digit (n ∷ ns) hex (suc i) =
-    let small : n ≤ 15 = hex 0 in
+-- digit i of a list's number is entry i of the list
+digit : (ns : List ℕ) → ((i : ℕ) → getD ns i 0 ≤ 8) → (i : ℕ) → packed ns / 2 ^ (i * 4) % 16 ≡ getD ns i 0
+digit [] small i = rw (zero-div (2 ^ (i * 4)))
+digit (n ∷ ns) small zero = let first : n ≤ 8 = small 0 in omega arith
+digit (n ∷ ns) small (suc i) =
+    let first : n ≤ 8 = small 0 in
     let higher : 2 ^ (suc i * 4) ≡ 16 * 2 ^ (i * 4) = ap (λ (k : ℕ). 2 ^ k) (omega arith) ∙ pow-add 2 4 (i * 4) in
     let lower : (packed ns * 16 + n) / 16 ≡ packed ns = omega arith in
-    rw (higher, sym (div-div-eq-div-mul (packed ns * 16 + n) 16 (2 ^ (i * 4))), lower) (digit ns (λ j. hex (suc j)) i)
+    rw (higher, sym (div-div-eq-div-mul (packed ns * 16 + n) 16 (2 ^ (i * 4))), lower) (digit ns (λ j. small (suc j)) i)
 
--- so the octets are worked out of the packed bits
-pub octets-of :
-    {number : ℕ} {octets : List ℕ} (bits : List ℕ)
-    → number ≡ packed bits
-    → ((i : ℕ) → getD bits i 0 ≤ 15)
-    → map (λ (b : ℕ). b * 5) bits ≡ octets
-    → (i : ℕ) → number / 2 ^ (i * 4) % 16 * 5 ≡ getD octets i 0
-octets-of bits number hex octets i =
-    rw (number, digit bits hex i, sym octets) (sym (List·getD-map (λ (b : ℕ). b * 5) bits i 0))
+-- one test over a table: no entry is 0
+abbrev filled : List ℕ → Bool
+filled [] = true
+filled (zero ∷ ns) = false
+filled (suc n ∷ ns) = filled ns
+
+within : (ns : List ℕ) → T (filled ns) → (i : ℕ) → i < length ns → 0 < getD ns i 0
+within [] t i h = absurd (omega arith)
+within (zero ∷ ns) t i h = absurd t
+within (suc n ∷ ns) t zero h = omega arith
+within (suc n ∷ ns) t (suc i) h = within ns t i (omega arith)
+
+-- five times the bits of a coding type, as the code has them
+abbrev pub eachAt : Syntax → ℕ → ℕ
+eachAt syntax coding = packed (bitsAt (place syntax)) / 2 ^ (coding * 4) % 16 * 5
+
+-- what they tell of a syntax of blocks: its octets, or that it has no such coding type
+pub record Blocks (syntax : Syntax) : Type 0 where
+  pub frame : isG7231 syntax ≡ false
+  pub voice : voiceless syntax ≡ false
+  pub most : (coding : ℕ) → eachAt syntax coding ≤ 40
+  pub none : (coding : ℕ) → codings syntax ≤ coding → eachAt syntax coding ≡ 0
+  pub some : (coding : ℕ) → coding < codings syntax → 0 < eachAt syntax coding
+  pub octets : (coding : ℕ) → coding < codings syntax → eachAt syntax coding ≡ blockOctets syntax coding
+
+module _ (syntax : Syntax) where
+  abbrev bits : List ℕ
+  bits = bitsAt (place syntax)
+
+  table :
+      isG7231 syntax ≡ false
+      → voiceless syntax ≡ false
+      → T (atMost 8 bits)
+      → T (filled bits)
+      → length bits ≡ codings syntax
+      → ((coding : ℕ) → coding < codings syntax → getD bits coding 0 * 5 ≡ blockOctets syntax coding)
+      → Blocks syntax
+  table frame voice most full long octets =
+      let small : (i : ℕ) → getD bits i 0 ≤ 8 = entries 8 bits most in
+      let is : (i : ℕ) → eachAt syntax i ≡ getD bits i 0 * 5 = λ i. ap (λ (n : ℕ). n * 5) (digit bits small i) in
+      record {
+        frame = frame;
+        voice = voice;
+        most = λ i. rw (is i) (omega (arith, small i));
+        none = λ i h. let out : length bits ≤ i = rw long h in is i ∙ rw (List·getD-eq-default bits 0 out);
+        some = λ i h. let in-table : i < length bits = rw long h in rw (is i) (omega (arith, within bits full i in-table));
+        octets = λ i h. is i ∙ octets i h;
+      }
+
+-- acelp and g728
+ten : (coding : ℕ) → coding < 1 → getD (2 ∷ []) coding 0 * 5 ≡ 10
+ten zero h = refl
+ten (suc i) h = absurd (omega arith)
+
+-- pcm and g727
+tabled : (ns : List ℕ) {octets : List ℕ} → map (λ (b : ℕ). b * 5) ns ≡ octets → (i : ℕ) → getD ns i 0 * 5 ≡ getD octets i 0
+tabled ns is i = sym (List·getD-map (λ (b : ℕ). b * 5) ns i 0) ∙ ap (λ (l : List ℕ). getD l i 0) is
+
+-- every syntax before g7231 in document 01's list
+pub blocks : (syntax : Syntax) → place syntax < 5 → Blocks syntax
+unfolding blockOctets
+blocks Acelp h = table Acelp refl refl tt tt refl ten
+blocks Pcm h = table Pcm refl refl tt tt refl (λ i h. tabled pcmBits (five-times-bits .pcm) i)
+blocks G727 h = table G727 refl refl tt tt refl (λ i h. tabled g727Bits (five-times-bits .g727) i)
+blocks G728 h = table G728 refl refl tt tt refl ten
+blocks G7231 h = absurd (omega arith)
+blocks Data h = absurd (omega arith)
+blocks Fax h = absurd (omega arith)
+
+-- behind g7231, data and fax; at its place, g7231 itself
+pub last : (syntax : Syntax) → 5 < place syntax → codings syntax ≡ 0
+last Acelp h = absurd (omega arith)
+last Pcm h = absurd (omega arith)
+last G727 h = absurd (omega arith)
+last G728 h = absurd (omega arith)
+last G7231 h = absurd (omega arith)
+last Data h = refl
+last Fax h = refl
+
+pub frames : (syntax : Syntax) → place syntax ≡ 5 → isG7231 syntax ≡ true
+frames Acelp h = absurd (omega arith)
+frames Pcm h = absurd (omega arith)
+frames G727 h = absurd (omega arith)
+frames G728 h = absurd (omega arith)
+frames G7231 h = refl
+frames Data h = absurd (omega arith)
+frames Fax h = absurd (omega arith)

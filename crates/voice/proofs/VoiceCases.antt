@@ -16,7 +16,7 @@ use Rattle.record.specs.declared.syntax.Syntax.{Syntax}
 use Rattle.record.specs.declared.syntax.Record.{Record}
 use Rattle.voice.specs.declared.VoiceRead.the-variants.{Voice, BadVoice}
 use Rattle.voice.specs.Voice.{codings, blockOctets, bothFlags, g7231Octets, isG7231, bodyOctets, frontOf, deciding, frontOctet, sequenceIn, codingIn, bodyIn, voiceless, bodyRefusals, voiceRead, mostSequence, writeRefusals, frontOctets, voiceMade}
-use Rattle.voice.specs.Private.{lengthNumber, blocksNumber}
+use Rattle.voice.specs.Private.{lengthNumber}
 use Rattle.refusal.proofs.Order.{Stops, here, past, Passes, stopped, sounds, passed, numberOf, by-number}
 use Rattle.voice.proofs.Sizes as sizes
 
@@ -58,6 +58,11 @@ module _ (r : Record) (coding : ℕ) (body : List ℕ) (frame : isG7231 (r .synt
             tells r coding body
             (past there (past known (past unflagged (here (rw (frame, ne-eqb (length body) (g7231Octets (getD body 0 0)) h))))))
 
+-- the number of blocks of a syntax: 16 for a coding type that is not in the table, and 0 or 13
+abbrev blocksNumber : Syntax → ℕ → ℕ → ℕ → ℕ
+blocksNumber syntax m coding len =
+    cond (leb (codings syntax) coding) codingTypeUnknown (lengthNumber m (blockOctets syntax coding) len)
+
 -- the test for 13, the other way round
 turned : (same : Bool) → cond (not same) lengthWrong sound ≡ cond same sound lengthWrong
 turned true = refl
@@ -75,23 +80,22 @@ module _ (r : Record) (coding : ℕ) (body : List ℕ) where
   frame-number frame = rw (sizes.frame-coding (r .syntax) frame)
 
   -- blocks of a syntax
-  pub blocks-number :
-      {syntax : Syntax}
-      → r .syntax ≡ syntax
-      → isG7231 syntax ≡ false
-      → voiceless syntax ≡ false
-      → bodyNumber r coding body ≡ blocksNumber syntax (r .m) coding (length body)
-  unfolding bodyOctets
-  blocks-number {syntax} is blocks voice =
-      simp (is, blocks, voice, le-ltb (length body) 0 (omega arith))
-      (ap (cond (leb (codings syntax) coding) codingTypeUnknown) (turned (eqb (length body) (r .m * blockOctets syntax coding))))
+  module _ (blocks : isG7231 (r .syntax) ≡ false) (voice : voiceless (r .syntax) ≡ false) where
+    blocks-number : bodyNumber r coding body ≡ blocksNumber (r .syntax) (r .m) coding (length body)
+    unfolding bodyOctets
+    blocks-number =
+        simp (blocks, voice, le-ltb (length body) 0 (omega arith))
+        (ap (cond (leb (codings (r .syntax)) coding) codingTypeUnknown) (turned (eqb (length body) (r .m * blockOctets (r .syntax) coding))))
 
-module _ (syntax : Syntax) (m coding len : ℕ) where
-  pub unknown-number : codings syntax ≤ coding → blocksNumber syntax m coding len ≡ codingTypeUnknown
-  unknown-number h = simp (le-leb (codings syntax) coding h)
+    pub unknown-number : codings (r .syntax) ≤ coding → bodyNumber r coding body ≡ codingTypeUnknown
+    unknown-number h = blocks-number ∙ simp (le-leb (codings (r .syntax)) coding h)
 
-  pub known-number : {each : ℕ} → coding < codings syntax → each ≡ blockOctets syntax coding → blocksNumber syntax m coding len ≡ lengthNumber m each len
-  known-number h is = simp (lt-leb (codings syntax) coding h, is)
+    pub known-number :
+        {each : ℕ}
+        → coding < codings (r .syntax)
+        → each ≡ blockOctets (r .syntax) coding
+        → bodyNumber r coding body ≡ lengthNumber (r .m) each (length body)
+    known-number h is = blocks-number ∙ simp (lt-leb (codings (r .syntax)) coding h, is)
 
 pub missing : (r : Record) (payload : List ℕ) → length payload < frontOf r → voiceRead r payload ≡ BadVoice lengthWrong
 unfolding voiceRead

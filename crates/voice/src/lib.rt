@@ -4,22 +4,24 @@ use octets::Fit;
 use octets::Put;
 use record::syntax::Record;
 use record::syntax::Syntax;
+use record::syntax::place_of;
 ghost use mathlib.Core.Path.{_≡_};
 ghost use mathlib.Core.Bool.{true};
-ghost use lib.ListN.{getD};
 ghost use Prim.Native.Nat.{_*_, _/_, _%_, _^_, _<_, _≤_};
 ghost use Rattle.octets.specs.Made.{fitOf, putMade, leftMade};
 ghost use mathlib.Core.List.{_∷_};
 ghost use Rattle.refusal.specs.Numbers.{sound, typeNotAllowed};
 ghost use Rattle.refusal.specs.Order.{_gives_, inOrder};
-ghost use Rattle.record.specs.declared.syntax.Syntax.the-variants.{Acelp, Pcm, G727};
-ghost use Rattle.voice.specs.Voice.{codings, pcmOctets, g727Octets, g7231Octets, isG7231, seqFront, frontBy, frontOf, voiceless, bodyRefusals, voiceRead, mostSequence, voiceMade};
-ghost use Rattle.voice.specs.Private.{lengthNumber, blocksNumber};
+ghost use Rattle.voice.specs.Voice.{codings, g7231Octets, isG7231, seqFront, frontBy, frontOf, voiceless, bodyRefusals, voiceRead, mostSequence, voiceMade};
+ghost use Rattle.voice.specs.Private.{lengthNumber, packed, bitsAt};
 
-// The bits of a sample, of Annex F and of Annex G: a hex digit for each coding type, the last one for code 0.
+// The bits of a sample, of Annex F and of Annex G: a hex digit for each coding type, the last digit for code 0; 0 is no coding type.
 const PCM_BITS: u64 = 0x2345_2345_678_678;
 
 const G727_BITS: u64 = 0x514_54213_5433212;
+
+// Acelp and g728 have code 0 alone, and ten octets: five times two.
+const TEN_BITS: u64 = 0x2;
 
 // What reading a voice payload tells; the body begins behind `front` octets.
 pub enum VoiceRead {
@@ -47,27 +49,25 @@ pub fn coding_count(syntax: Syntax) -> u8
     }
 }
 
-// The octets of a coding type, five times its bits: each bit of forty samples takes five octets.
+// The bits of the coding types of a syntax of blocks, by its place in document 01's list.
+fn bits_at(at: u16) -> u64
+    ensures { λ r. ⌜ r ≡ packed (bitsAt at) ⌝ }
+{
+    if at == place_of(Syntax::Pcm) {
+        return PCM_BITS;
+    }
+    if at == place_of(Syntax::G727) {
+        return G727_BITS;
+    }
+    TEN_BITS
+}
+
+// The octets of a coding type, five times its bits: a bit of each of forty samples takes five octets.
 fn five_times(bits: u64, coding: u8) -> usize
     requires { ⌜ coding < 16 ⌝ }
     ensures { λ r. ⌜ r ≡ bits / 2 ^ (coding * 4) % 16 * 5 ⌝ }
 {
     ((bits >> (coding * 4)) % 16 * 5) as usize
-}
-
-// The same under Annex F, and under Annex G.
-fn pcm_octets(coding: u8) -> usize
-    requires { ⌜ coding < 14 ⌝ }
-    ensures { λ r. ⌜ r ≡ getD pcmOctets coding 0 ⌝ }
-{
-    five_times(PCM_BITS, coding)
-}
-
-fn g727_octets(coding: u8) -> usize
-    requires { ⌜ coding < 15 ⌝ }
-    ensures { λ r. ⌜ r ≡ getD g727Octets coding 0 ⌝ }
-{
-    five_times(G727_BITS, coding)
 }
 
 // The refusal number of a body of `len` octets that is to be m blocks of so many octets each.
@@ -79,35 +79,6 @@ fn length_refusal(m: u8, each: usize, len: usize) -> u8
         return refusal::SOUND;
     }
     refusal::LENGTH_WRONG
-}
-
-// The same of acelp and of g728: blocks of ten octets, and one coding type.
-fn ten_refusal(m: u8, coding: u8, len: usize) -> u8
-    ensures { λ r. ⌜ r ≡ blocksNumber Acelp m coding len ⌝ }
-{
-    if coding_count(Syntax::Acelp) <= coding {
-        return refusal::CODING_TYPE_UNKNOWN;
-    }
-    length_refusal(m, 10, len)
-}
-
-// The same of pcm, and of g727.
-fn pcm_refusal(m: u8, coding: u8, len: usize) -> u8
-    ensures { λ r. ⌜ r ≡ blocksNumber Pcm m coding len ⌝ }
-{
-    if coding_count(Syntax::Pcm) <= coding {
-        return refusal::CODING_TYPE_UNKNOWN;
-    }
-    length_refusal(m, pcm_octets(coding), len)
-}
-
-fn g727_refusal(m: u8, coding: u8, len: usize) -> u8
-    ensures { λ r. ⌜ r ≡ blocksNumber G727 m coding len ⌝ }
-{
-    if coding_count(Syntax::G727) <= coding {
-        return refusal::CODING_TYPE_UNKNOWN;
-    }
-    length_refusal(m, g727_octets(coding), len)
 }
 
 // The octets of one G.723.1 frame, from its first octet.
@@ -138,20 +109,28 @@ fn frame_refusal(rec: Record, coding: u8, body: &[u8]) -> u8
     refusal::LENGTH_WRONG
 }
 
-// The refusal number of a body with its coding type.
+// The refusal number of a body with its coding type. In document 01's list the syntaxes of blocks come first, then g7231, then data
+// and fax.
 fn body_refusal(rec: Record, coding: u8, body: &[u8]) -> u8
     ensures { λ r. ⌜ r ≡ inOrder (voiceless (rec .syntax) gives typeNotAllowed ∷ bodyRefusals rec coding (now (body .entry))) (λ number. number) sound ⌝ }
 {
     let syntax = rec.syntax;
-    match syntax {
-        Syntax::Acelp => ten_refusal(rec.m, coding, body.len()),
-        Syntax::Pcm => pcm_refusal(rec.m, coding, body.len()),
-        Syntax::G727 => g727_refusal(rec.m, coding, body.len()),
-        Syntax::G728 => ten_refusal(rec.m, coding, body.len()),
-        Syntax::G7231 => frame_refusal(rec, coding, body),
-        Syntax::Data => refusal::TYPE_NOT_ALLOWED,
-        Syntax::Fax => refusal::TYPE_NOT_ALLOWED,
+    let at = place_of(syntax);
+    let g7231 = place_of(Syntax::G7231);
+    if g7231 < at {
+        return refusal::TYPE_NOT_ALLOWED;
     }
+    if at == g7231 {
+        return frame_refusal(rec, coding, body);
+    }
+    if 15 < coding {
+        return refusal::CODING_TYPE_UNKNOWN;
+    }
+    let each = five_times(bits_at(at), coding);
+    if each == 0 {
+        return refusal::CODING_TYPE_UNKNOWN;
+    }
+    length_refusal(rec.m, each, body.len())
 }
 
 fn seq_front(seq: bool) -> usize
