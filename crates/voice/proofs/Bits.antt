@@ -1,4 +1,4 @@
--- The octets of a coding type are five times its bits, which stand in one number, a hex digit of it for each coding type.
+-- The octets of a coding type are five times its bits, which stand in one number, a hex digit for each coding type.
 use Prim.Native.Nat.{ℕ, zero, suc, _+_, _*_, _/_, _%_, _^_, _≤_, _<_}
 use mathlib.Core.Path.{_≡_, refl, sym, ap, _∙_}
 use mathlib.Core.Bool.{Bool, true, false}
@@ -13,21 +13,21 @@ use Rattle.record.specs.declared.syntax.Syntax.{Syntax}
 use Rattle.record.specs.declared.syntax.Syntax.the-variants.{Acelp, Pcm, G727, G728, G7231, Data, Fax}
 use Rattle.record.specs.Record.{place}
 use Rattle.voice.specs.Voice.{pcmBits, g727Bits, codings, blockOctets, isG7231, voiceless}
-use Rattle.voice.specs.Private.{packed, bitsAt}
+use Rattle.voice.specs.Private.{inHex, fivesAt}
 use Rattle.voice.specs.Claims.{FiveTimesBits}
 
 pub five-times-bits : FiveTimesBits
 five-times-bits = record { pcm = refl; g727 = refl }
 
 -- digit i of a list's number is entry i of the list
-digit : (ns : List ℕ) → ((i : ℕ) → getD ns i 0 ≤ 8) → (i : ℕ) → packed ns / 2 ^ (i * 4) % 16 ≡ getD ns i 0
+digit : (ns : List ℕ) → ((i : ℕ) → getD ns i 0 ≤ 8) → (i : ℕ) → inHex ns / 2 ^ (i * 4) % 16 ≡ getD ns i 0
 digit [] small i = rw (zero-div (2 ^ (i * 4)))
 digit (n ∷ ns) small zero = let first : n ≤ 8 = small 0 in omega arith
 digit (n ∷ ns) small (suc i) =
     let first : n ≤ 8 = small 0 in
     let higher : 2 ^ (suc i * 4) ≡ 16 * 2 ^ (i * 4) = ap (λ (k : ℕ). 2 ^ k) (omega arith) ∙ pow-add 2 4 (i * 4) in
-    let lower : (packed ns * 16 + n) / 16 ≡ packed ns = omega arith in
-    rw (higher, sym (div-div-eq-div-mul (packed ns * 16 + n) 16 (2 ^ (i * 4))), lower) (digit ns (λ j. small (suc j)) i)
+    let lower : (inHex ns * 16 + n) / 16 ≡ inHex ns = omega arith in
+    rw (higher, sym (div-div-eq-div-mul (inHex ns * 16 + n) 16 (2 ^ (i * 4))), lower) (digit ns (λ j. small (suc j)) i)
 
 -- one test over a table: no entry is 0
 abbrev filled : List ℕ → Bool
@@ -41,13 +41,13 @@ within (zero ∷ ns) t i h = absurd t
 within (suc n ∷ ns) t zero h = omega arith
 within (suc n ∷ ns) t (suc i) h = within ns t i (omega arith)
 
--- five times the bits of a coding type, as the code has them
+-- the octets of a coding type, as the code works them out
 abbrev pub eachAt : Syntax → ℕ → ℕ
-eachAt syntax coding = packed (bitsAt (place syntax)) / 2 ^ (coding * 4) % 16 * 5
+eachAt syntax coding = inHex (fivesAt (place syntax)) / 2 ^ (coding * 4) % 16 * 5
 
--- what they tell of a syntax of blocks: its octets, or that it has no such coding type
+-- what they tell of a syntax of blocks: what document 01 has, or that there is no such coding type
 pub record Blocks (syntax : Syntax) : Type 0 where
-  pub frame : isG7231 syntax ≡ false
+  pub no-frame : isG7231 syntax ≡ false
   pub voice : voiceless syntax ≡ false
   pub most : (coding : ℕ) → eachAt syntax coding ≤ 40
   pub none : (coding : ℕ) → codings syntax ≤ coding → eachAt syntax coding ≡ 0
@@ -55,26 +55,26 @@ pub record Blocks (syntax : Syntax) : Type 0 where
   pub octets : (coding : ℕ) → coding < codings syntax → eachAt syntax coding ≡ blockOctets syntax coding
 
 module _ (syntax : Syntax) where
-  abbrev bits : List ℕ
-  bits = bitsAt (place syntax)
+  abbrev fives : List ℕ
+  fives = fivesAt (place syntax)
 
   table :
       isG7231 syntax ≡ false
       → voiceless syntax ≡ false
-      → T (atMost 8 bits)
-      → T (filled bits)
-      → length bits ≡ codings syntax
-      → ((coding : ℕ) → coding < codings syntax → getD bits coding 0 * 5 ≡ blockOctets syntax coding)
+      → T (atMost 8 fives)
+      → T (filled fives)
+      → length fives ≡ codings syntax
+      → ((coding : ℕ) → coding < codings syntax → getD fives coding 0 * 5 ≡ blockOctets syntax coding)
       → Blocks syntax
-  table frame voice most full long octets =
-      let small : (i : ℕ) → getD bits i 0 ≤ 8 = entries 8 bits most in
-      let is : (i : ℕ) → eachAt syntax i ≡ getD bits i 0 * 5 = λ i. ap (λ (n : ℕ). n * 5) (digit bits small i) in
+  table no-frame voice most full long octets =
+      let small : (i : ℕ) → getD fives i 0 ≤ 8 = entries 8 fives most in
+      let is : (i : ℕ) → eachAt syntax i ≡ getD fives i 0 * 5 = λ i. ap (λ (n : ℕ). n * 5) (digit fives small i) in
       record {
-        frame = frame;
+        no-frame = no-frame;
         voice = voice;
         most = λ i. rw (is i) (omega (arith, small i));
-        none = λ i h. let out : length bits ≤ i = rw long h in is i ∙ rw (List·getD-eq-default bits 0 out);
-        some = λ i h. let in-table : i < length bits = rw long h in rw (is i) (omega (arith, within bits full i in-table));
+        none = λ i h. let out : length fives ≤ i = rw long h in is i ∙ rw (List·getD-eq-default fives 0 out);
+        some = λ i h. let in-table : i < length fives = rw long h in rw (is i) (omega (arith, within fives full i in-table));
         octets = λ i h. is i ∙ octets i h;
       }
 
@@ -99,14 +99,14 @@ blocks Data h = absurd (omega arith)
 blocks Fax h = absurd (omega arith)
 
 -- behind g7231, data and fax; at its place, g7231 itself
-pub last : (syntax : Syntax) → 5 < place syntax → codings syntax ≡ 0
-last Acelp h = absurd (omega arith)
-last Pcm h = absurd (omega arith)
-last G727 h = absurd (omega arith)
-last G728 h = absurd (omega arith)
-last G7231 h = absurd (omega arith)
-last Data h = refl
-last Fax h = refl
+pub data-or-fax : (syntax : Syntax) → 5 < place syntax → codings syntax ≡ 0
+data-or-fax Acelp h = absurd (omega arith)
+data-or-fax Pcm h = absurd (omega arith)
+data-or-fax G727 h = absurd (omega arith)
+data-or-fax G728 h = absurd (omega arith)
+data-or-fax G7231 h = absurd (omega arith)
+data-or-fax Data h = refl
+data-or-fax Fax h = refl
 
 pub frames : (syntax : Syntax) → place syntax ≡ 5 → isG7231 syntax ≡ true
 frames Acelp h = absurd (omega arith)

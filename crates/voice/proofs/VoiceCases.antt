@@ -58,7 +58,7 @@ module _ (r : Record) (coding : ℕ) (body : List ℕ) (frame : isG7231 (r .synt
             tells r coding body
             (past there (past known (past unflagged (here (rw (frame, ne-eqb (length body) (g7231Octets (getD body 0 0)) h))))))
 
--- the number of blocks of a syntax: 16 for a coding type that is not in the table, and 0 or 13
+-- the refusal number of a body of blocks: 16 for a coding type that is not in the table, else 0 or 13
 abbrev blocksNumber : Syntax → ℕ → ℕ → ℕ → ℕ
 blocksNumber syntax m coding len =
     cond (leb (codings syntax) coding) codingTypeUnknown (lengthNumber m (blockOctets syntax coding) len)

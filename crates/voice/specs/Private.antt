@@ -12,11 +12,12 @@ use Rattle.voice.specs.Voice.{pcmBits, g727Bits}
 abbrev pub lengthNumber : ℕ → ℕ → ℕ → ℕ
 lengthNumber m each len = cond (eqb len (m * each)) sound lengthWrong
 
--- One number of hex digits, the first of the list last.
-abbrev pub packed : List ℕ → ℕ
-packed [] = 0
-packed (n ∷ ns) = packed ns * 16 + n
+-- A list as one number: a hex digit for each entry, the first entry in the last digit.
+abbrev pub inHex : List ℕ → ℕ
+inHex [] = 0
+inHex (n ∷ ns) = inHex ns * 16 + n
 
--- The bits of the coding types of a syntax of blocks, by its place in document 01's list. Acelp and g728 have 10 octets, five times 2.
-abbrev pub bitsAt : ℕ → List ℕ
-bitsAt at = cond (eqb at (place Pcm)) pcmBits (cond (eqb at (place G727)) g727Bits (2 ∷ []))
+-- How many times five octets each coding type of a syntax of blocks has, by the place of the syntax in document 01's list: under pcm
+-- and g727 as many as bits per sample; acelp and g728 have 10 octets. No other place is asked.
+abbrev pub fivesAt : ℕ → List ℕ
+fivesAt at = cond (eqb at (place Pcm)) pcmBits (cond (eqb at (place G727)) g727Bits (2 ∷ []))

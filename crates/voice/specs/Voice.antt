@@ -24,7 +24,8 @@ pcmOctets = 40 ∷ 35 ∷ 30 ∷ 40 ∷ 35 ∷ 30 ∷ 25 ∷ 20 ∷ 15 ∷ 10 �
 abbrev pub g727Octets : List ℕ
 g727Octets = 10 ∷ 5 ∷ 10 ∷ 15 ∷ 15 ∷ 20 ∷ 25 ∷ 15 ∷ 5 ∷ 10 ∷ 20 ∷ 25 ∷ 20 ∷ 5 ∷ 25 ∷ []
 
--- The bits of a sample, which are a coding type's kbit/s over 8 (FRF.11, Figures F - 4 and G - 2; document 02, wish 2)
+-- The bits of each sample that a coding type carries: its kbit/s over 8, since there are 8,000 samples a second (FRF.11, Figures F - 4
+-- and G - 2; document 02, wish 2)
 abbrev pub pcmBits : List ℕ
 pcmBits = 8 ∷ 7 ∷ 6 ∷ 8 ∷ 7 ∷ 6 ∷ 5 ∷ 4 ∷ 3 ∷ 2 ∷ 5 ∷ 4 ∷ 3 ∷ 2 ∷ []
 

@@ -13,15 +13,16 @@ ghost use mathlib.Core.List.{_∷_};
 ghost use Rattle.refusal.specs.Numbers.{sound, typeNotAllowed};
 ghost use Rattle.refusal.specs.Order.{_gives_, inOrder};
 ghost use Rattle.voice.specs.Voice.{codings, g7231Octets, isG7231, seqFront, frontBy, frontOf, voiceless, bodyRefusals, voiceRead, mostSequence, voiceMade};
-ghost use Rattle.voice.specs.Private.{lengthNumber, packed, bitsAt};
+ghost use Rattle.voice.specs.Private.{lengthNumber, inHex, fivesAt};
 
-// The bits of a sample, of Annex F and of Annex G: a hex digit for each coding type, the last digit for code 0; 0 is no coding type.
+// The bits per sample, of Annex F and of Annex G: a hex digit for each coding type, code 0 in the last. Where a digit is 0, there is no
+// such coding type. The groups are the algorithms of Figure F - 4 and the cores of Figure G - 2.
 const PCM_BITS: u64 = 0x2345_2345_678_678;
 
 const G727_BITS: u64 = 0x514_54213_5433212;
 
-// Acelp and g728 have code 0 alone, and ten octets: five times two.
-const TEN_BITS: u64 = 0x2;
+// Acelp and g728 have code 0 alone, with twice five octets; of acelp that is no count of bits per sample.
+const TEN_OCTETS: u64 = 0x2;
 
 // What reading a voice payload tells; the body begins behind `front` octets.
 pub enum VoiceRead {
@@ -49,9 +50,9 @@ pub fn coding_count(syntax: Syntax) -> u8
     }
 }
 
-// The bits of the coding types of a syntax of blocks, by its place in document 01's list.
-fn bits_at(at: u16) -> u64
-    ensures { λ r. ⌜ r ≡ packed (bitsAt at) ⌝ }
+// How many times five octets each coding type of a syntax of blocks has, by the place of the syntax in document 01's list.
+fn fives_at(at: u16) -> u64
+    ensures { λ r. ⌜ r ≡ inHex (fivesAt at) ⌝ }
 {
     if at == place_of(Syntax::Pcm) {
         return PCM_BITS;
@@ -59,15 +60,15 @@ fn bits_at(at: u16) -> u64
     if at == place_of(Syntax::G727) {
         return G727_BITS;
     }
-    TEN_BITS
+    TEN_OCTETS
 }
 
-// The octets of a coding type, five times its bits: a bit of each of forty samples takes five octets.
-fn five_times(bits: u64, coding: u8) -> usize
+// The octets of a coding type; 0 where there is no such one. A bit of each of forty samples takes five octets.
+fn five_times(fives: u64, coding: u8) -> usize
     requires { ⌜ coding < 16 ⌝ }
-    ensures { λ r. ⌜ r ≡ bits / 2 ^ (coding * 4) % 16 * 5 ⌝ }
+    ensures { λ r. ⌜ r ≡ fives / 2 ^ (coding * 4) % 16 * 5 ⌝ }
 {
-    ((bits >> (coding * 4)) % 16 * 5) as usize
+    ((fives >> (coding * 4)) % 16 * 5) as usize
 }
 
 // The refusal number of a body of `len` octets that is to be m blocks of so many octets each.
@@ -110,7 +111,7 @@ fn frame_refusal(rec: Record, coding: u8, body: &[u8]) -> u8
 }
 
 // The refusal number of a body with its coding type. In document 01's list the syntaxes of blocks come first, then g7231, then data
-// and fax.
+// and fax; a `match` became a jump table (docs/DECISIONS.md, "a voice body is judged by one number").
 fn body_refusal(rec: Record, coding: u8, body: &[u8]) -> u8
     ensures { λ r. ⌜ r ≡ inOrder (voiceless (rec .syntax) gives typeNotAllowed ∷ bodyRefusals rec coding (now (body .entry))) (λ number. number) sound ⌝ }
 {
@@ -126,7 +127,7 @@ fn body_refusal(rec: Record, coding: u8, body: &[u8]) -> u8
     if 15 < coding {
         return refusal::CODING_TYPE_UNKNOWN;
     }
-    let each = five_times(bits_at(at), coding);
+    let each = five_times(fives_at(at), coding);
     if each == 0 {
         return refusal::CODING_TYPE_UNKNOWN;
     }

@@ -7,7 +7,7 @@ use native.Mathlib.Omega.{arith}
 use borrow.Author.Needs.{needs}
 use Rattle.octets.proofs.Order.{lt-or-le}
 use Rattle.voice.specs.Voice.{codings, isG7231}
-use Rattle.voice.specs.Private.{packed, bitsAt}
+use Rattle.voice.specs.Private.{inHex, fivesAt}
 use Rattle.voice.proofs.Sizes as sizes
 use Rattle.voice.proofs.Bits as bits
 use Rattle.voice.proofs.VoiceCases as cases
@@ -26,7 +26,7 @@ returns c =
     let a = d .before .before .before .args in
     sym
     (cases.no-voice (a .rec) (a .coding) (a .body .now)
-    (bits.last (a .rec .syntax) (omega (arith, c .if1 .taken, d .place-of2 .ensures, d .before .place-of .ensures))))
+    (bits.data-or-fax (a .rec .syntax) (omega (arith, c .if1 .taken, d .place-of2 .ensures, d .before .place-of .ensures))))
 
 frame : (c : tie.Then2) → isG7231 (c .before .before .before .before .before .args .rec .syntax) ≡ true
 frame c =
@@ -53,11 +53,11 @@ returns-3 c =
     let b = blocks (c .before) in
     let a = c .before .before .before .before .before .before .args in
     sym
-    (cases.unknown-number (a .rec) (a .coding) (a .body .now) (b .frame) (b .voice)
+    (cases.unknown-number (a .rec) (a .coding) (a .body .now) (b .no-frame) (b .voice)
     (omega (arith, sizes.codings-small (a .rec .syntax), c .if3 .taken)))
 
-bits-at-requires : tie.Need-bits-at-requires
-bits-at-requires c κs = search needs
+fives-at-requires : tie.Need-fives-at-requires
+fives-at-requires c κs = search needs
 
 five-times-requires : tie.Need-five-times-requires
 five-times-requires c κs = search needs
@@ -68,7 +68,7 @@ each c =
     let a = d .before .before .before .args in
     c .five-times .ensures
     ∙ ap (λ (n : ℕ). n / 2 ^ (a .coding * 4) % 16 * 5)
-    (c .before .bits-at .ensures ∙ ap (λ (at : ℕ). packed (bitsAt at)) (d .before .place-of .ensures))
+    (c .before .fives-at .ensures ∙ ap (λ (at : ℕ). inHex (fivesAt at)) (d .before .place-of .ensures))
 
 returns-4 : tie.Need-returns-4
 returns-4 c =
@@ -76,7 +76,7 @@ returns-4 c =
     let b = blocks (e .before .before .before) in
     let a = e .before .before .before .before .before .before .before .before .args in
     sym
-    (cases.unknown-number (a .rec) (a .coding) (a .body .now) (b .frame) (b .voice)
+    (cases.unknown-number (a .rec) (a .coding) (a .body .now) (b .no-frame) (b .voice)
     (⊎-elim (λ h. absurd (omega (arith, b .some (a .coding) h, each e, c .if4 .taken))) (λ h. h)
     (lt-or-le (a .coding) (codings (a .rec .syntax)))))
 
@@ -98,7 +98,7 @@ returns-5 c =
     in
     c .length-refusal .ensures
     ∙ sym
-    (cases.known-number (a .rec) (a .coding) (a .body .now) (b .frame) (b .voice) known (each e ∙ b .octets (a .coding) known))
+    (cases.known-number (a .rec) (a .coding) (a .body .now) (b .no-frame) (b .voice) known (each e ∙ b .octets (a .coding) known))
 
 pub body-refusal-spec : {M : Type 1} → statement M
 body-refusal-spec =
@@ -110,7 +110,7 @@ body-refusal-spec =
     frame-refusal-requires
     returns-2
     returns-3
-    bits-at-requires
+    fives-at-requires
     five-times-requires
     returns-4
     length-refusal-requires

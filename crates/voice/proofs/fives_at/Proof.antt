@@ -1,9 +1,9 @@
--- `voice::bits_at` meets its contract: each constant has the bits of its list.
+-- `voice::fives_at` meets its contract: each constant has the bits of its list.
 use mathlib.Core.Path.{_∙_}
 use borrow.Author.Needs.{needs}
 use borrow.Author.Tests.{eq-eqb, ne-eqb}
-use Rattle.voice.proofs.bits_at.Statement.{statement}
-use Rattle.voice.proofs.bits_at.Tie as tie
+use Rattle.voice.proofs.fives_at.Statement.{statement}
+use Rattle.voice.proofs.fives_at.Tie as tie
 
 place-of-requires : tie.Need-place-of-requires
 place-of-requires c κs = search needs
@@ -28,5 +28,5 @@ returns-3 c =
     let other = rw (c .before .before .before .place-of .ensures) at (c .before .before .if1 .left) in
     simp (ne-eqb at 2 other, ne-eqb at 3 (rw (c .before .place-of2 .ensures) at (c .if2 .left)))
 
-pub bits-at-spec : {M : Type 1} → statement M
-bits-at-spec = tie.close (tie.spec place-of-requires returns place-of-requires-2 returns-2 returns-3)
+pub fives-at-spec : {M : Type 1} → statement M
+fives-at-spec = tie.close (tie.spec place-of-requires returns place-of-requires-2 returns-2 returns-3)
