@@ -87,7 +87,7 @@ ten (suc i) h = absurd (omega arith)
 tabled : (ns : List ℕ) {octets : List ℕ} → map (λ (b : ℕ). b * 5) ns ≡ octets → (i : ℕ) → getD ns i 0 * 5 ≡ getD octets i 0
 tabled ns is i = sym (List·getD-map (λ (b : ℕ). b * 5) ns i 0) ∙ ap (λ (l : List ℕ). getD l i 0) is
 
--- every syntax before g7231 in document 01's list
+-- every syntax before g7231 in document 01's list of syntax words
 pub blocks : (syntax : Syntax) → place syntax < 5 → Blocks syntax
 unfolding blockOctets
 blocks Acelp h = table Acelp refl refl tt tt refl ten

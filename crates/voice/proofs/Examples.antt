@@ -1,4 +1,4 @@
--- Worked examples, on the definitions: payloads with the octets of their coding type, one less and one more; and 16.
+-- Worked examples, on the definitions: payloads with the octets of their coding type, one less and one more; and what is refused with 16.
 use Prim.Native.Nat.{ℕ}
 use mathlib.Core.Path.{_≡_, refl}
 use mathlib.Core.List.{List, [], _∷_}

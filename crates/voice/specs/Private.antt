@@ -17,7 +17,7 @@ abbrev pub inHex : List ℕ → ℕ
 inHex [] = 0
 inHex (n ∷ ns) = inHex ns * 16 + n
 
--- How many times five octets each coding type of a syntax of blocks has, by the place of the syntax in document 01's list: under pcm
--- and g727 as many as bits per sample; acelp and g728 have 10 octets. No other place is asked.
+-- How many times five octets each coding type has, of a syntax whose body is m blocks, by its place in document 01's list of syntax
+-- words: under pcm and g727 as many as bits per sample; acelp and g728 have 10 octets. No other place is asked.
 abbrev pub fivesAt : ℕ → List ℕ
 fivesAt at = cond (eqb at (place Pcm)) pcmBits (cond (eqb at (place G727)) g727Bits (2 ∷ []))

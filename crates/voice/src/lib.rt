@@ -15,8 +15,8 @@ ghost use Rattle.refusal.specs.Order.{_gives_, inOrder};
 ghost use Rattle.voice.specs.Voice.{codings, g7231Octets, isG7231, seqFront, frontBy, frontOf, voiceless, bodyRefusals, voiceRead, mostSequence, voiceMade};
 ghost use Rattle.voice.specs.Private.{lengthNumber, inHex, fivesAt};
 
-// The bits per sample, of Annex F and of Annex G: a hex digit for each coding type, code 0 in the last. Where a digit is 0, there is no
-// such coding type. The groups are the algorithms of Figure F - 4 and the cores of Figure G - 2.
+// The bits per sample, of Annex F and of Annex G: a hex digit for each coding type, code 0 in the last. A digit that is 0 or not
+// written: no such coding type. The groups are the algorithms of Figure F - 4 and the cores of Figure G - 2.
 const PCM_BITS: u64 = 0x2345_2345_678_678;
 
 const G727_BITS: u64 = 0x514_54213_5433212;
@@ -50,7 +50,8 @@ pub fn coding_count(syntax: Syntax) -> u8
     }
 }
 
-// How many times five octets each coding type of a syntax of blocks has, by the place of the syntax in document 01's list.
+// How many times five octets each coding type has, a hex digit for each: of a syntax whose body is m blocks (acelp, pcm, g727, g728), by
+// its place in document 01's list of syntax words.
 fn fives_at(at: u16) -> u64
     ensures { λ r. ⌜ r ≡ inHex (fivesAt at) ⌝ }
 {
@@ -110,8 +111,8 @@ fn frame_refusal(rec: Record, coding: u8, body: &[u8]) -> u8
     refusal::LENGTH_WRONG
 }
 
-// The refusal number of a body with its coding type. In document 01's list the syntaxes of blocks come first, then g7231, then data
-// and fax; a `match` became a jump table (docs/DECISIONS.md, "a voice body is judged by one number").
+// The refusal number of a body with its coding type. In document 01's list of syntax words those of blocks come first, then g7231, then
+// data and fax. Arms for them would compile to a jump table (docs/DECISIONS.md, "a voice body is judged by one number").
 fn body_refusal(rec: Record, coding: u8, body: &[u8]) -> u8
     ensures { λ r. ⌜ r ≡ inOrder (voiceless (rec .syntax) gives typeNotAllowed ∷ bodyRefusals rec coding (now (body .entry))) (λ number. number) sound ⌝ }
 {
