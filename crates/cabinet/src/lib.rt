@@ -1,5 +1,7 @@
 // What the cabinet's host program, in C, links (document 01: "hands the frame check a frame, getting a number back, 0 if
 // sound"). host/cendraviu.h declares it.
+#![tactic(auto)]
+
 ghost use Rattle.std.specs.Prelude.{◌≡◌};
 ghost use Rattle.frame.specs.Opening.{opening};
 

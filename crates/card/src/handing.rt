@@ -22,7 +22,7 @@ pub const FROM_FRAME: u8 = refusal::SOUND;
 pub const FROM_SILENCE: u8 = 255;
 
 // What is handed: a part of the frame, the silence block, or nothing with the refusal number.
-#[derive(Drop)]
+#[derive(Clone, Copy)]
 pub enum Handed {
     FromFrame { start: usize, len: usize },
     FromSilence,

@@ -6,7 +6,7 @@ ghost use Rattle.hexline.specs.Hex.{hex_value};
 ghost use Rattle.console.specs.Hex.{leading, decoded, signed_of};
 
 // Whether the characters are pairs of hex digits that the room takes, and how many octets they are.
-#[derive(Drop)]
+#[derive(Clone, Copy)]
 pub struct Decoded {
     pub sound: bool,
     pub size: usize,

@@ -5,14 +5,14 @@ ghost use Rattle.octets.specs.Text.{has_lf};
 use octets::text::LF;
 
 // How much of the block that was read last is taken, and how much it has.
-#[derive(Drop)]
+#[derive(Clone, Copy)]
 pub struct Input {
     pub taken: usize,
     pub have: usize,
 }
 
 // The next character, or that the input has ended.
-#[derive(Drop)]
+#[derive(Clone, Copy)]
 struct Next {
     ended: bool,
     character: u8,
@@ -20,7 +20,7 @@ struct Next {
 }
 
 // A line: how many characters it has before its end, of which the room has as many as it takes; and whether an LF ends it.
-#[derive(Drop)]
+#[derive(Clone, Copy)]
 pub struct Line {
     pub size: usize,
     pub whole: bool,

@@ -4,7 +4,7 @@ ghost use Rattle.std.specs.Prelude.{◌≤◌, length};
 use crate::input::Input;
 
 // A line: how many characters it has; that the input ended before it; and the input behind it.
-#[derive(Drop)]
+#[derive(Clone, Copy)]
 pub struct Given {
     pub size: usize,
     pub ended: bool,

@@ -1,6 +1,8 @@
 // The counts of FRF.11 (document 01, "The digit count, the signalling count, the voice count and the data count"; document 02,
 // wish 1: the fax count): a type each, so that one never stands in for another. Each goes on by one and tells the step to
 // another, round its width, for every value that its type can hold.
+#![tactic(auto)]
+
 ghost use Rattle.std.specs.Prelude.{◌≡◌, ◌%◌, ◌^◌, ◌<◌};
 ghost use Rattle.counts.specs.Round.{onward, step};
 
@@ -34,23 +36,23 @@ fn step_four(last: u8, new: u8) -> u8
 }
 
 // The sequence of digit payloads (Annex A), of 8 bits.
-#[derive(Drop)]
+#[derive(Clone, Copy)]
 pub struct DigitCount(pub u8);
 
 // The sequence of signalling payloads (Annex B), of 7 bits.
-#[derive(Drop)]
+#[derive(Clone, Copy)]
 pub struct SignallingCount(pub u8);
 
 // The sequence of voice and SID payloads (Annexes E to I), of 4 bits.
-#[derive(Drop)]
+#[derive(Clone, Copy)]
 pub struct VoiceCount(pub u8);
 
 // The sequence of data payloads (Annex C), of 13 bits.
-#[derive(Drop)]
+#[derive(Clone, Copy)]
 pub struct DataCount(pub u16);
 
 // The sequence of fax payloads (Annex D), of 4 bits.
-#[derive(Drop)]
+#[derive(Clone, Copy)]
 pub struct FaxCount(pub u8);
 
 impl DigitCount {

@@ -1,4 +1,6 @@
 // Data payloads, read and written (document 01, "Payload types": data; FRF.11, Annex C).
+#![tactic(auto)]
+
 ghost use Rattle.std.specs.Prelude.{◌≡◌, Bool, cond, ◌≤◌};
 ghost use Rattle.octets.specs.Made.{fit_of, put_made, left_made};
 ghost use Rattle.data.specs.Data.{data_read, front, data_made};
@@ -10,7 +12,7 @@ use octets::{Fit, Put};
 const MOST_SEQUENCE: u16 = 8191;
 
 // What reading a data payload tells; the fragment's octets stand behind the first two.
-#[derive(Drop)]
+#[derive(Clone, Copy)]
 pub enum DataRead {
     Fragment {
         begins: bool,

@@ -1,4 +1,6 @@
 // The digit receiver (document 01, "Receivers"; document 02, wish 3).
+#![tactic(auto)]
+
 ghost use Rattle.std.specs.Prelude.{◌≡◌};
 ghost use Rattle.dialled.specs.Receiver.{fresh_receiver, step_from, fill_of, periods_of, receiver_after, appended, passed_over, replayed, received, voice_heard};
 
@@ -9,7 +11,7 @@ use digits::layout::{Digits, DigitsRead, Window};
 const FARTHEST: u8 = 127;
 
 // What the next payload is held against: whether one was heard, its sequence, and the state that a fill repeats.
-#[derive(Drop)]
+#[derive(Clone, Copy)]
 pub struct Receiver {
     heard: bool,
     last: DigitCount,
@@ -19,7 +21,7 @@ pub struct Receiver {
 
 // What a payload appends: so many filled periods, all of one content, then so many of the periods, oldest first; unused
 // places are off. The number is 0, or the refusal, beside which nothing is appended.
-#[derive(Drop)]
+#[derive(Clone, Copy)]
 pub struct Received {
     pub number: u8,
     pub fills: u8,

@@ -1,4 +1,6 @@
 // The digit sender, one entry per 20 ms (document 01, "Senders, per 20 ms").
+#![tactic(auto)]
+
 ghost use Rattle.std.specs.Prelude.{◌≡◌};
 ghost use Rattle.dialling.specs.Sender.{fresh_sender, window_in, changes, stray_edge, loud, due, tail_after, period, refused, sending};
 
@@ -6,7 +8,7 @@ use counts::DigitCount;
 use digits::layout::{Digits, Window};
 
 // What a period is to be: off, or on with a code; where in it the change lies, in ms; and the level of its own payload.
-#[derive(Drop)]
+#[derive(Clone, Copy)]
 pub struct Entry {
     pub on: bool,
     pub code: u8,
@@ -16,7 +18,7 @@ pub struct Entry {
 
 // What the next period depends on: the number of the next sent period; the entry before (code 0 when off); how many periods
 // from here on are sent though off and unchanged; the last two sent periods.
-#[derive(Drop)]
+#[derive(Clone, Copy)]
 pub struct Sender {
     next: DigitCount,
     on: bool,
@@ -27,7 +29,7 @@ pub struct Sender {
 }
 
 // What becomes of an entry.
-#[derive(Drop)]
+#[derive(Clone, Copy)]
 pub enum Sending {
     // The refusal number.
     BadEntry(u8),
@@ -36,7 +38,7 @@ pub enum Sending {
 }
 
 // That, and the sender after it.
-#[derive(Drop)]
+#[derive(Clone, Copy)]
 pub struct Taken {
     pub answer: Sending,
     pub sender: Sender,

@@ -9,7 +9,7 @@ use levels::Coded;
 use octets::{Fit, Put};
 
 // One 20 ms period: off or on with a code, and where in it the change lies, in ms.
-#[derive(Drop)]
+#[derive(Clone, Copy)]
 pub struct Window {
     pub on: bool,
     pub edge: u8,
@@ -17,7 +17,7 @@ pub struct Window {
 }
 
 // A digits payload: the level in dBm0, which is 0 to -31 when read, and three periods.
-#[derive(Drop)]
+#[derive(Clone, Copy)]
 pub struct Digits {
     pub sequence: DigitCount,
     pub level: i8,
@@ -37,7 +37,7 @@ pub fn off_window() -> Window
     }
 }
 
-#[derive(Drop)]
+#[derive(Clone, Copy)]
 pub enum DigitsRead {
     Dialled(Digits),
     // The refusal number.

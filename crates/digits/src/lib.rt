@@ -1,2 +1,4 @@
 // Digits payloads (document 01, "Payload types": digits; FRF.11, Annex A).
+#![tactic(auto)]
+
 pub mod layout;

@@ -1,6 +1,8 @@
 // Examples of document 01's refusals 11 to 16, 22 and 31 to 34, run: a line a case, what is answered behind its name.
 // The cases are the lines of the input: the name of one, then its kind and what is given, octets in hex or a text. Each line is
 // known by its first letter.
+#![tactic(auto)]
+
 mod contents;
 mod line;
 mod texts;

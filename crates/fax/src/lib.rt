@@ -1,4 +1,6 @@
 // Fax payloads, read and written (document 01, "Payload types": fax; FRF.11, Annex D).
+#![tactic(auto)]
+
 ghost use Rattle.std.specs.Prelude.{◌≡◌, true, false, cond, ◌<◌, ◌≤◌, ltb, length, get_or, take};
 ghost use Rattle.octets.specs.Made.{fit_of, put_made, left_made};
 ghost use Rattle.fax.specs.declared.Command.{Command};
@@ -14,14 +16,14 @@ const MOST_STAMP: u16 = 32767;
 const LAST_MODULATION: u8 = 11;
 
 // The time stamp, there exactly when EI1 is 1.
-#[derive(Drop)]
+#[derive(Clone, Copy)]
 pub enum Stamp {
     NoStamp,
     Stamped(u16),
 }
 
 // The relay command; `Page` is document 01's command 2, data.
-#[derive(Drop)]
+#[derive(Clone, Copy)]
 pub enum Command {
     Off,
     On {
@@ -35,7 +37,7 @@ pub enum Command {
 }
 
 // What reading a fax payload tells; the data octets stand behind `front` octets.
-#[derive(Drop)]
+#[derive(Clone, Copy)]
 pub enum FaxRead {
     Fax {
         sequence: u8,

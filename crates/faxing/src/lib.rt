@@ -1,4 +1,6 @@
 // The fax replay: what each fax payload of a sub-channel brings about (document 02, wish 1; FRF.11, Annex D).
+#![tactic(auto)]
+
 ghost use Rattle.std.specs.Prelude.{◌≡◌, true, ◌-◌, ◌≤◌, length, get_or};
 ghost use Rattle.replay.specs.Rule.{carried_count};
 ghost use Rattle.fax.specs.declared.Command.TheVariants.{EndOfFrame};
@@ -14,7 +16,7 @@ const PAGE_SIZES: [u8; 12] = [0, 0, 12, 24, 36, 48, 60, 72, 36, 48, 60, 72];
 
 // A replay: no modulation is on; or one is, with HDLC or without, and the payload taken just before had this command's code, this
 // number and this stamp.
-#[derive(Drop)]
+#[derive(Clone, Copy)]
 pub enum Receiver {
     NoneOn,
     InForce {
@@ -28,7 +30,7 @@ pub enum Receiver {
 
 // What a payload did: nothing, where it is refused, repeats a command or is an off with none on; else what its command says,
 // modulation-on, modulation-off, data (which may add no octet), end-of-frame, abort. Stamps are in milliseconds.
-#[derive(Drop)]
+#[derive(Clone, Copy)]
 pub enum Did {
     Nothing,
     Began {
@@ -45,7 +47,7 @@ pub enum Did {
 
 // What a payload brings about, to be handed on in this order: whether octets are missing before these; how many octets, and these,
 // oldest first from place 0, then 0; what it did. The number is 0, or the refusal, beside which nothing is done.
-#[derive(Drop)]
+#[derive(Clone, Copy)]
 pub struct Received {
     pub number: u8,
     pub gap: bool,

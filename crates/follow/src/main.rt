@@ -1,6 +1,8 @@
 // The program `follow` (docs/FOLLOW.md): its argument is a sub-channel; a recording from standard input, what the sub-channel's trunk
 // does with it to standard output. It reads, has the crate `following` follow, and prints, in fixed memory. Where a write fails it
 // says so and stops.
+#![tactic(auto)]
+
 ghost use Rattle.std.specs.Prelude.{◌<◌, ◌≤◌, length};
 ghost use Rattle.following.specs.Following.{most_followed};
 ghost use Rattle.streaming.specs.Pieces.{Within};
@@ -11,7 +13,7 @@ use trunk::Trunk;
 use value::Value;
 
 // Where a piece is followed up to, how the next line stands, the trunk, and whether printing went well.
-#[derive(Drop)]
+#[derive(Clone, Copy)]
 struct Stands {
     at: usize,
     have: usize,
@@ -21,7 +23,7 @@ struct Stands {
 }
 
 // The program's argument.
-#[derive(Drop)]
+#[derive(Clone, Copy)]
 enum Argument {
     Cid(u8),
     NoCid,

@@ -17,7 +17,7 @@ use trunk::{Told, Trunk};
 pub(crate) const MOST_FOLLOWED: usize = 26176;
 
 // The place after what is printed, and the trunk then.
-#[derive(Drop)]
+#[derive(Clone, Copy)]
 pub(crate) struct Shown {
     pub next: usize,
     pub trunk: Trunk,

@@ -10,7 +10,7 @@ use recording::stream::{Begun, MOST_KEPT, Taken};
 use trunk::Trunk;
 
 // What following a piece does: the octets taken of it, the octets printed, how it stands then, and the trunk.
-#[derive(Drop)]
+#[derive(Clone, Copy)]
 pub struct Followed {
     pub taken: usize,
     pub used: usize,

@@ -1,4 +1,6 @@
 // Opening a frame (document 01, "Frame and sub-frame" and refusals 1 to 8).
+#![tactic(auto)]
+
 ghost use Rattle.std.specs.Prelude.{◌≡◌, ◌-◌, length};
 ghost use Rattle.frame.specs.Opening.{most_sub_frames, field_fits, scan, stopped, checked, opening, answer};
 
@@ -11,7 +13,7 @@ pub const MOST_SUB_FRAMES: usize = 64;
 
 // What opening a frame tells: the refusal number, 0 for a sound frame; the place of the offending sub-frame's first octet (0
 // for 1 and 2), or the end of the field; how many sub-frames it holds; and these, in order. A refused frame has none.
-#[derive(Drop)]
+#[derive(Clone, Copy)]
 pub struct Opened {
     pub number: u8,
     pub at: usize,
@@ -20,7 +22,7 @@ pub struct Opened {
 }
 
 // The same without the list of the sub-frames.
-#[derive(Drop)]
+#[derive(Clone, Copy)]
 pub struct Checked {
     pub number: u8,
     pub at: usize,

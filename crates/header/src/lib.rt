@@ -1,10 +1,12 @@
 // The header of a sub-frame, read (document 01, "Frame and sub-frame" and refusals 3 to 7).
+#![tactic(auto)]
+
 ghost use Rattle.std.specs.Prelude.{◌≡◌};
 ghost use Rattle.header.specs.Header.{cid_of, header_at, sub_at};
 ghost use Rattle.header.specs.Private.{unless_reserved};
 
 // A sub-frame of a frame: its payload is the len octets of the frame from start on.
-#[derive(Drop)]
+#[derive(Clone, Copy)]
 pub struct SubFrame {
     pub cid: u8,
     pub ptype: u8,
@@ -14,7 +16,7 @@ pub struct SubFrame {
 }
 
 // What reading a header at a place finds.
-#[derive(Drop)]
+#[derive(Clone, Copy)]
 pub enum Header {
     Sub(SubFrame),
     // The refusal number, 3 to 7.

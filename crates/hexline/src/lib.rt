@@ -1,4 +1,6 @@
 // A line after the provisioning text: a frame in hex (document 01, "Listing program").
+#![tactic(auto)]
+
 mod hex;
 
 ghost use Rattle.std.specs.Prelude.{◌≡◌, length};
@@ -10,7 +12,7 @@ use octets::text::LF;
 const MOST_CHARACTERS: usize = 3200;
 
 // What a line holds: its refusal number, 0 for none, and how many octets its frame has.
-#[derive(Drop)]
+#[derive(Clone, Copy)]
 pub struct Read {
     pub number: u8,
     pub octets: usize,

@@ -1,4 +1,6 @@
 // Writing the header of a sub-frame in its shortest form (document 01, "Frame and sub-frame").
+#![tactic(auto)]
+
 ghost use Rattle.std.specs.Prelude.{◌≡◌, ◌-◌, length};
 ghost use Rattle.joining.specs.Joining.{shortest_header, header_size, header_put};
 ghost use Rattle.octets.specs.Room.{left_by};

@@ -1,9 +1,11 @@
 // Levels in dBm0, from and to their magnitudes (document 01, "Payload types": SID and digits).
+#![tactic(auto)]
+
 ghost use Rattle.std.specs.Prelude.{◌≡◌};
 ghost use Rattle.levels.specs.Level.{level_of, code_of};
 
 // How a level is coded.
-#[derive(Drop)]
+#[derive(Clone, Copy)]
 pub enum Coded {
     // Its magnitude.
     Code(u8),

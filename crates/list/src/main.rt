@@ -1,5 +1,7 @@
 // The listing program (document 01, "Listing program"): a recording from standard input, its listing to standard output. It reads,
 // has the crate `listing` list, and prints, in fixed memory. Where a write fails it says so and stops.
+#![tactic(auto)]
+
 ghost use Rattle.std.specs.Prelude.{◌<◌, ◌≤◌, length};
 ghost use Rattle.listing.specs.Listing.{most_listed};
 ghost use Rattle.streaming.specs.Pieces.{Within};
@@ -8,7 +10,7 @@ use recording::stream::{Begun, MOST_KEPT};
 use streaming::input::Piece;
 
 // Where a piece is listed up to, how the next line stands, and whether printing went well.
-#[derive(Drop)]
+#[derive(Clone, Copy)]
 struct Stands {
     at: usize,
     have: usize,

@@ -10,7 +10,7 @@ use octets::Put;
 use recording::stream::{Begun, MOST_KEPT, Taken};
 
 // What listing a piece does: the octets taken of it, the octets listed, and how it stands then.
-#[derive(Drop)]
+#[derive(Clone, Copy)]
 pub struct Listed {
     pub taken: usize,
     pub used: usize,

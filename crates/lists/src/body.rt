@@ -1,7 +1,7 @@
 // Octets that pass through, drawn from a seed, and parts of octets.
 
 // As many octets: the first given, the others drawn and masked.
-#[derive(Drop)]
+#[derive(Clone, Copy)]
 pub struct Body {
     pub len: usize,
     pub first: u8,

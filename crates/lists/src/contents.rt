@@ -9,14 +9,14 @@ use fax::{Command, Stamp};
 use record::syntax::{Record, Syntax};
 use sid::Sid;
 
-#[derive(Drop)]
+#[derive(Clone, Copy)]
 pub struct Speech {
     pub sequence: VoiceCount,
     pub coding: u8,
     pub body: Body,
 }
 
-#[derive(Drop)]
+#[derive(Clone, Copy)]
 pub struct Fragment {
     pub begins: bool,
     pub ends: bool,
@@ -24,7 +24,7 @@ pub struct Fragment {
     pub body: Body,
 }
 
-#[derive(Drop)]
+#[derive(Clone, Copy)]
 pub struct Relay {
     pub sequence: u8,
     pub stamp: Stamp,
@@ -32,7 +32,7 @@ pub struct Relay {
     pub body: Body,
 }
 
-#[derive(Drop)]
+#[derive(Clone, Copy)]
 pub struct Seizure {
     pub alarm: bool,
     pub sequence: SignallingCount,

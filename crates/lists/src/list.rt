@@ -14,7 +14,7 @@ const MOST_NOT_LAST: usize = 255;
 // A list goes on where its payloads end no later: the longest payload, of 481 octets, still has its place there.
 const ROOMY: usize = 1100;
 
-#[derive(Drop)]
+#[derive(Clone, Copy)]
 pub enum Shape {
     // One to twelve sub-frames of every kind.
     Short,
@@ -24,7 +24,7 @@ pub enum Shape {
     Filled,
 }
 
-#[derive(Drop)]
+#[derive(Clone, Copy)]
 pub struct List {
     pub shape: Shape,
     pub most: usize,
@@ -32,7 +32,7 @@ pub struct List {
 }
 
 // A sub-frame that is given: `len` is looked at where it is a data fragment.
-#[derive(Drop)]
+#[derive(Clone, Copy)]
 pub struct Given {
     pub cid: u8,
     pub kind: Kind,

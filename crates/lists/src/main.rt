@@ -4,6 +4,8 @@
 // a list. Behind a frame that does not read back a line says `differs=` with the first sub-frame that differs, from 1; none does.
 // The file stdout is this program's own output: the second program lists each of its sub-frames with answer 0, and with the
 // CID, type and length that were drawn.
+#![tactic(auto)]
+
 mod body;
 mod compare;
 mod contents;

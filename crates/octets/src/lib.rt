@@ -1,4 +1,6 @@
 // Octets in lent memory.
+#![tactic(auto)]
+
 pub mod text;
 
 ghost use Rattle.std.specs.Prelude.{◌≡◌, ◌++◌, ◌+◌, ◌*◌, ◌≤◌, min, length, ltb, get_or};
@@ -33,14 +35,14 @@ pub fn octet(octets: &[u8], at: usize) -> u8
 }
 
 // What a layout makes of a content: as many octets, or the refusal number.
-#[derive(Drop)]
+#[derive(Clone, Copy)]
 pub enum Fit {
     Octets(usize),
     Unfit(u8),
 }
 
 // What writing into lent room answers.
-#[derive(Drop)]
+#[derive(Clone, Copy)]
 pub enum Put {
     // The place after what was written.
     Written(usize),

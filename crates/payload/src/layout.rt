@@ -6,7 +6,7 @@ use record::syntax::{Record, Syntax};
 use record::table::Found;
 
 // What the syntaxes have in common.
-#[derive(Drop)]
+#[derive(Clone, Copy)]
 pub enum Family {
     VoiceFamily,
     DataFamily,
@@ -14,7 +14,7 @@ pub enum Family {
 }
 
 // The layout of a payload, with what reading it takes.
-#[derive(Drop)]
+#[derive(Clone, Copy)]
 pub enum Layout {
     OfVoice(Record),
     OfDigits,
@@ -27,7 +27,7 @@ pub enum Layout {
 }
 
 // The kinds of content.
-#[derive(Drop)]
+#[derive(Clone, Copy)]
 pub enum Kind {
     AVoice,
     ADigits,
@@ -38,7 +38,7 @@ pub enum Kind {
 }
 
 // The payload type of a content on a sub-channel.
-#[derive(Drop)]
+#[derive(Clone, Copy)]
 pub enum TypeFor {
     Typed(u8),
     // The refusal number, 11 or 12.

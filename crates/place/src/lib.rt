@@ -1,5 +1,7 @@
 // Where the writer stands, and what it tests before a sub-frame's payload (document 01, "Refusal numbers": "Its order: 24, 4,
 // 11 to 16, 22, 23, 21").
+#![tactic(auto)]
+
 ghost use Rattle.std.specs.Prelude.{◌≡◌, ◌+◌};
 ghost use Rattle.record.specs.Record.{found_at};
 ghost use Rattle.place.specs.Place.{fresh_writer, channel_for, too_long, full, placed, entered};
@@ -14,7 +16,7 @@ const MOST_NOT_LAST: usize = 255;
 
 // Where the writer stands: the octets and the sub-frames written, and whether the last one is among them. A caller
 // may hand in any value.
-#[derive(Drop)]
+#[derive(Clone, Copy)]
 pub struct Writer {
     pub at: usize,
     pub count: usize,
@@ -22,7 +24,7 @@ pub struct Writer {
 }
 
 // What a sub-channel takes a content as.
-#[derive(Drop)]
+#[derive(Clone, Copy)]
 pub enum Channel {
     // Its record, and the content's payload type there.
     Takes { rec: Record, ptype: u8 },
@@ -31,7 +33,7 @@ pub enum Channel {
 }
 
 // Whether a sub-frame has its place.
-#[derive(Drop)]
+#[derive(Clone, Copy)]
 pub enum Entered {
     // Where the payload begins, its octets, and the writer after it.
     Place {

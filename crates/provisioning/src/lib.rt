@@ -1,3 +1,5 @@
 // The provisioning text (document 01, "Provisioning text").
+#![tactic(auto)]
+
 mod line;
 pub mod text;

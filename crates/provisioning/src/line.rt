@@ -8,7 +8,7 @@ use record::syntax::{Record, Syntax};
 use value::Value;
 
 // The kinds of lines of a block, in their order.
-#[derive(Drop)]
+#[derive(Clone, Copy)]
 pub enum Kind {
     OfCid,
     OfSyntax,
@@ -18,7 +18,7 @@ pub enum Kind {
 
 // The kind of the line that is due, and the CID and the record under way, in which each line sets what it tells. Before a cid
 // line they are those of the block before.
-#[derive(Drop)]
+#[derive(Clone, Copy)]
 pub struct State {
     pub kind: Kind,
     pub cid: u8,
@@ -26,7 +26,7 @@ pub struct State {
 }
 
 // What a line does.
-#[derive(Drop)]
+#[derive(Clone, Copy)]
 pub enum Step {
     // It is taken: what is due after it, and the octets that it takes with its LF.
     Goes { state: State, size: usize },

@@ -6,7 +6,7 @@ use crate::line::Step;
 
 const MOST_OCTETS: usize = 8192;
 
-#[derive(Drop)]
+#[derive(Clone, Copy)]
 pub enum TextAnswer {
     // How many blocks the text has.
     Taken(usize),

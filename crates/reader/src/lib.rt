@@ -1,13 +1,15 @@
 // The frame reader (document 01, "A frame reader then holds the lent frame and its place in it, and yields sub-frames in
 // order, payloads as parts of the frame"). The functions over `Reader` are thin and proved by hand; the work is done by
 // `start`, `step_from` and `part`, on the slice and plain values.
+#![tactic(auto)]
+
 ghost use Rattle.std.specs.Prelude.{◌≡◌};
 ghost use Rattle.reader.specs.Reading.{start_of, next_of, opened, found, stepped, payload_of, payload_at, nth_of};
 
 use header::{Header, SubFrame};
 
 // What a step yields.
-#[derive(Drop)]
+#[derive(Clone, Copy)]
 pub enum Found {
     Sub(SubFrame),
     // There is no sub-frame left.
@@ -15,14 +17,14 @@ pub enum Found {
 }
 
 // What was found, and the place in the frame from which to go on.
-#[derive(Drop)]
+#[derive(Clone, Copy)]
 pub struct Place {
     pub at: usize,
     pub found: Found,
 }
 
 // A frame reader: the lent frame, and its place in it. Other crates get one from `open` alone.
-#[derive(Drop)]
+#[derive(Clone, Copy)]
 pub struct Reader<'a> {
     frame: &'a [u8],
     at: usize,

@@ -3,7 +3,7 @@ ghost use Rattle.std.specs.Prelude.{◌≡◌, ℕ, ◌/◌, ◌%◌, ◌^◌, c
 ghost use Rattle.record.specs.declared.syntax.Standing.TheVariants.{Listed, NotListed};
 ghost use Rattle.record.specs.Record.{m_listed, seq_listed, legal, with_pair, place, syntax_at};
 
-#[derive(Drop)]
+#[derive(Clone, Copy)]
 pub enum Syntax {
     Acelp,
     Pcm,
@@ -14,7 +14,7 @@ pub enum Syntax {
     Fax,
 }
 
-#[derive(Drop)]
+#[derive(Clone, Copy)]
 pub struct Record {
     pub syntax: Syntax,
     pub m: u8,
@@ -87,7 +87,7 @@ pub fn place_of(syntax: Syntax) -> u16
 }
 
 // What stands at a place of that list.
-#[derive(Drop)]
+#[derive(Clone, Copy)]
 pub(crate) enum Standing {
     Listed(Syntax),
     NotListed,

@@ -5,7 +5,7 @@ ghost use Rattle.record.specs.Record.{packed, meaning, found_at};
 use crate::syntax::{Record, Standing};
 
 // What is provisioned on a CID.
-#[derive(Drop)]
+#[derive(Clone, Copy)]
 pub enum Found {
     Provisioned(Record),
     Unprovisioned,

@@ -8,14 +8,14 @@ use octets::Put;
 use octets::text::LF;
 
 // A line: its octets, and whether it ends with an LF.
-#[derive(Drop)]
+#[derive(Clone, Copy)]
 pub struct Line {
     pub size: usize,
     pub whole: bool,
 }
 
 // A line that is kept: how many octets of the piece are taken, how many octets of the line are kept now, and whether it is whole.
-#[derive(Drop)]
+#[derive(Clone, Copy)]
 pub struct Kept {
     pub taken: usize,
     pub have: usize,

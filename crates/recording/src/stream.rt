@@ -11,7 +11,7 @@ use hexline::Read;
 pub const MOST_KEPT: usize = 3207;
 
 // Between two pieces: how many octets of the present line are kept, and its frame number.
-#[derive(Drop)]
+#[derive(Clone, Copy)]
 pub struct Begun {
     pub have: usize,
     pub number: u64,
@@ -19,7 +19,7 @@ pub struct Begun {
 
 // What taking a line from a piece tells: the octets of the piece that it takes; whether the line is whole with them; what it holds,
 // where it is; and how the next line stands.
-#[derive(Drop)]
+#[derive(Clone, Copy)]
 pub struct Taken {
     pub size: usize,
     pub whole: bool,

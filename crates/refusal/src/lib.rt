@@ -1,5 +1,7 @@
 // The refusal numbers of document 01, "Refusal numbers", and those of document 02, each named once for the code;
 // specs/Numbers.antt names them for the definitions, with the documents' words for each.
+#![tactic(auto)]
+
 pub const SOUND: u8 = 0;
 
 pub const FIELD_EMPTY: u8 = 1;

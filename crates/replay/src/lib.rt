@@ -1,5 +1,7 @@
 // The receivers' rule, once for digits and signalling (document 01, "Receivers"): what a payload appends, by its step. The
 // theorem on it stands in specs/Claims.antt.
+#![tactic(auto)]
+
 ghost use Rattle.std.specs.Prelude.{◌≡◌};
 ghost use Rattle.replay.specs.Rule.{step_taken, fill_count, carried_count};
 

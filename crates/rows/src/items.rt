@@ -29,7 +29,7 @@ pub fn part(octets: &[u8], start: usize, len: usize) -> &[u8] {
 
 // How far the walk over the items is: where the octets of the item at hand begin and end, where the first item is, and how many
 // works are left.
-#[derive(Drop)]
+#[derive(Clone, Copy)]
 pub struct Place {
     pub start: usize,
     pub end: usize,

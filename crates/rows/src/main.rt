@@ -1,5 +1,7 @@
 // The work that is timed beside plain C (docs/SPEED.md): of one input, one row's work is done so many times, on its items in
 // turn, and the answers are folded into one number, which is printed.
+#![tactic(auto)]
+
 mod fold;
 mod items;
 mod reads;

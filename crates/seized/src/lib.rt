@@ -1,4 +1,6 @@
 // The signalling receiver (document 01, "Receivers"; document 02, wish 3).
+#![tactic(auto)]
+
 ghost use Rattle.std.specs.Prelude.{◌≡◌};
 ghost use Rattle.seized.specs.Receiver.{fresh_receiver, step_from, fill_of, periods_of, receiver_after, appended, passed_over, replayed, received};
 
@@ -10,7 +12,7 @@ const FARTHEST: u8 = 63;
 
 // A receiver: whether a payload was accepted before, and its number; the last sample of the record; the current value; the
 // alarm.
-#[derive(Drop)]
+#[derive(Clone, Copy)]
 pub struct Receiver {
     heard: bool,
     last: SignallingCount,
@@ -21,7 +23,7 @@ pub struct Receiver {
 
 // What a payload brings about: the refusal number, 0 where it is accepted; how many filled periods it appends, and the
 // sample of which each is ten; how many carried periods, their samples oldest first from place 0, then 0; and the receiver.
-#[derive(Drop)]
+#[derive(Clone, Copy)]
 pub struct Received {
     pub number: u8,
     pub fills: u8,

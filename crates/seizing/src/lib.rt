@@ -1,4 +1,6 @@
 // Sending signalling, a period of 20 ms at a time (document 01, "Senders, per 20 ms"; FRF.11, Annex B).
+#![tactic(auto)]
+
 ghost use Rattle.std.specs.Prelude.{◌≡◌};
 ghost use Rattle.signalling.specs.Layout.{all_allowed};
 ghost use Rattle.seizing.specs.Sender.{started, all_equal, decision, run_after, windows_after, decision_of, going_out, nothing_due, period, sent};
@@ -7,7 +9,7 @@ use counts::SignallingCount;
 use signalling::layout::Signalling;
 
 // What a period brings: the alarm bit and ten samples, oldest first.
-#[derive(Drop)]
+#[derive(Clone, Copy)]
 pub struct Entry {
     pub alarm: bool,
     pub samples: [u8; 10],
@@ -15,7 +17,7 @@ pub struct Entry {
 
 // A sender: the number of the last sent period, the sample before the next period, the quiet periods of the run (25 again
 // after each repeat), and the thirty samples of the last payload.
-#[derive(Drop)]
+#[derive(Clone, Copy)]
 pub struct Sender {
     last: SignallingCount,
     before: u8,
@@ -25,7 +27,7 @@ pub struct Sender {
 
 // What starting one tells: 15 for a start value that is not allowed, else 0; and the sender, which beside a refusal starts
 // from 0.
-#[derive(Drop)]
+#[derive(Clone, Copy)]
 pub struct Started {
     pub number: u8,
     pub sender: Sender,
@@ -33,7 +35,7 @@ pub struct Started {
 
 // What a period brings about: the refusal number, 0 where it is taken; whether a payload is to go out, and that payload, all
 // 0 where none is; and the sender.
-#[derive(Drop)]
+#[derive(Clone, Copy)]
 pub struct Sent {
     pub number: u8,
     pub due: bool,
@@ -42,7 +44,7 @@ pub struct Sent {
 }
 
 // What is done with a period: it is sent, the last payload is repeated, or nothing goes out.
-#[derive(Drop)]
+#[derive(Clone, Copy)]
 enum Decision {
     Sends,
     Repeats,

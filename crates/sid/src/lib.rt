@@ -1,4 +1,6 @@
 // Silence descriptors, read and written (document 01, "Payload types": SID).
+#![tactic(auto)]
+
 ghost use Rattle.std.specs.Prelude.{◌≡◌};
 ghost use Rattle.levels.specs.Level.{code_of};
 ghost use Rattle.octets.specs.Made.{fit_of, put_made, left_made};
@@ -10,13 +12,13 @@ use octets::{Fit, Put};
 use record::syntax::Syntax;
 
 // What a silence descriptor carries: the noise level, 0 to -63 dBm0, or nothing.
-#[derive(Drop)]
+#[derive(Clone, Copy)]
 pub enum Sid {
     Noise { sequence: VoiceCount, level: i8 },
     Plain,
 }
 
-#[derive(Drop)]
+#[derive(Clone, Copy)]
 pub enum SidRead {
     Silence(Sid),
     // The refusal number.

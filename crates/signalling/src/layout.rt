@@ -7,7 +7,7 @@ use counts::SignallingCount;
 use octets::{Fit, Put};
 
 // A signalling payload: the alarm bit, and 30 samples of four bits, oldest first.
-#[derive(Drop)]
+#[derive(Clone, Copy)]
 pub struct Signalling {
     pub alarm: bool,
     pub sequence: SignallingCount,
@@ -15,7 +15,7 @@ pub struct Signalling {
 }
 
 // What reading one tells: the refusal number, 0 where it is sound, and the content, which is all 0 beside a refusal.
-#[derive(Drop)]
+#[derive(Clone, Copy)]
 pub struct SignallingRead {
     pub number: u8,
     pub signalling: Signalling,

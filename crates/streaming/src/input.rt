@@ -7,14 +7,14 @@ ghost use Rattle.streaming.specs.Pieces.{Within, left, is_taken};
 use provisioning::text::TextAnswer;
 
 // A piece of the input: the octets of its room from a place up to another.
-#[derive(Drop)]
+#[derive(Clone, Copy)]
 pub struct Piece {
     pub from: usize,
     pub to: usize,
 }
 
 // How a recording starts: whether its text is taken, and what was read behind it.
-#[derive(Drop)]
+#[derive(Clone, Copy)]
 pub struct Start {
     pub taken: bool,
     pub behind: Piece,

@@ -1,3 +1,5 @@
 // A recording streamed from standard input, and what is told of it to standard output: what every program over recordings does.
+#![tactic(auto)]
+
 pub mod input;
 pub mod output;

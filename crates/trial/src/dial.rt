@@ -4,13 +4,13 @@ use dialled::{Received, Receiver};
 use dialling::{Entry, Sender, Sending};
 use digits::layout::Window;
 
-#[derive(Drop)]
+#[derive(Clone, Copy)]
 struct Receivers {
     first: Receiver,
     second: Receiver,
 }
 
-#[derive(Drop)]
+#[derive(Clone, Copy)]
 pub struct Dialling {
     sender: Sender,
     receivers: Receivers,

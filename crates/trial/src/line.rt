@@ -1,7 +1,7 @@
 // The kinds of line, their keys and their octets (docs/TRIAL.md, "Input").
 ghost use Rattle.io.specs.Counts.{IsPrefixLen};
 
-#[derive(Drop)]
+#[derive(Clone, Copy)]
 pub enum Kind {
     Digit,
     Start,
@@ -71,7 +71,7 @@ fn fits(kind: Kind, octets: &[u8]) -> bool {
 }
 
 // What a line is: its kind, and how many octets it states.
-#[derive(Drop)]
+#[derive(Clone, Copy)]
 pub struct Stated {
     pub kind: Kind,
     pub size: usize,

@@ -1,4 +1,6 @@
 // Sends digits and seizure bits, loses some payloads and replays the rest: lines in, answers out, as docs/TRIAL.md says.
+#![tactic(auto)]
+
 mod dial;
 mod line;
 mod seize;
@@ -8,7 +10,7 @@ use crate::seize::Seizing;
 use console::input::Input;
 
 // The senders and receivers of both kinds.
-#[derive(Drop)]
+#[derive(Clone, Copy)]
 struct Parties {
     dialling: Dialling,
     seizing: Seizing,

@@ -3,13 +3,13 @@ use crate::line::Kind;
 use seized::{Received, Receiver};
 use seizing::{Entry, Sender, Sent};
 
-#[derive(Drop)]
+#[derive(Clone, Copy)]
 struct Receivers {
     first: Receiver,
     second: Receiver,
 }
 
-#[derive(Drop)]
+#[derive(Clone, Copy)]
 pub struct Seizing {
     sender: Sender,
     receivers: Receivers,

@@ -1,6 +1,8 @@
 // One sub-channel at the far end (document 01, "Payload types" and "Receivers"; document 02, wishes 1 and 3). Its payloads, each with
 // its type, go to the receivers that their layouts name, by what is provisioned on the sub-channel. 11 to 16 come from here, 19 of
 // digits and signalling, and 41 and 42 of fax: no caller is expected to have looked first.
+#![tactic(auto)]
+
 ghost use Rattle.std.specs.Prelude.{◌≡◌};
 ghost use Rattle.trunk.specs.Trunk.{fresh_trunk, nothing_dialled, nothing_seized, nothing_faxed, refusing, passing, voice_taken, digits_taken, signalling_taken, fax_taken, sid_taken, data_taken, taken};
 ghost use Rattle.data.specs.Data.{data_read};
@@ -17,7 +19,7 @@ use sid::SidRead;
 use voice::VoiceRead;
 
 // All receiving state of one sub-channel.
-#[derive(Drop)]
+#[derive(Clone, Copy)]
 pub struct Trunk {
     pub digits: dialled::Receiver,
     pub signalling: seized::Receiver,
@@ -25,7 +27,7 @@ pub struct Trunk {
 }
 
 // What was heard.
-#[derive(Drop)]
+#[derive(Clone, Copy)]
 pub enum Heard {
     HeardNothing,
     HeardVoice,
@@ -38,7 +40,7 @@ pub enum Heard {
 
 // What the digit receiver appended: so many filled periods, all of one content, then so many of the periods, oldest first.
 // Unused places are off.
-#[derive(Drop)]
+#[derive(Clone, Copy)]
 pub struct Dialled {
     pub fills: u8,
     pub fill: Window,
@@ -48,7 +50,7 @@ pub struct Dialled {
 
 // What the signalling receiver appended: so many filled periods, each of ten times one sample, then so many of ten samples each,
 // oldest first. Unused places are 0.
-#[derive(Drop)]
+#[derive(Clone, Copy)]
 pub struct Seized {
     pub fills: u8,
     pub fill: u8,
@@ -57,7 +59,7 @@ pub struct Seized {
 }
 
 // What the fax replay handed on: whether octets are missing before these; so many octets, oldest first, then 0; what was done.
-#[derive(Drop)]
+#[derive(Clone, Copy)]
 pub struct Faxed {
     pub gap: bool,
     pub count: u8,
@@ -67,7 +69,7 @@ pub struct Faxed {
 
 // What a payload brings about: the refusal number, 0 where it is taken; what was heard; what each receiver appended and the fax
 // replay handed on; and the trunk after it, which is as it was where the payload is refused.
-#[derive(Drop)]
+#[derive(Clone, Copy)]
 pub struct Told {
     pub number: u8,
     pub heard: Heard,

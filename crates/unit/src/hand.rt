@@ -2,7 +2,7 @@
 use crate::line::Kind;
 
 // How many octets they have.
-#[derive(Drop)]
+#[derive(Clone, Copy)]
 pub struct Held {
     frame: usize,
     silence: usize,

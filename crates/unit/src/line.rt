@@ -1,7 +1,7 @@
 // The kinds of line, their keys and their octets (docs/UNIT.md, "Input").
 ghost use Rattle.io.specs.Counts.{IsPrefixLen};
 
-#[derive(Drop)]
+#[derive(Clone, Copy)]
 pub enum Content {
     Voice,
     Digits,
@@ -11,7 +11,7 @@ pub enum Content {
     Data,
 }
 
-#[derive(Drop)]
+#[derive(Clone, Copy)]
 pub enum Kind {
     Frame,
     Silence,
@@ -130,7 +130,7 @@ fn content_fits(content: Content, octets: &[u8]) -> bool {
 }
 
 // What a line is: its kind, and how many octets it states.
-#[derive(Drop)]
+#[derive(Clone, Copy)]
 pub struct Stated {
     pub kind: Kind,
     pub size: usize,

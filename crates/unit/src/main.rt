@@ -1,5 +1,7 @@
 // Hands a voice card what frames have for it, and writes sub-frames into a lent frame: a provisioning text and lines in, answers out,
 // as docs/UNIT.md says.
+#![tactic(auto)]
+
 mod contents;
 mod hand;
 mod line;
@@ -10,7 +12,7 @@ use crate::write::Lent;
 use console::input::Input;
 
 // What the card can be handed, and what is written.
-#[derive(Drop)]
+#[derive(Clone, Copy)]
 struct Stands {
     held: Held,
     lent: Lent,

@@ -6,7 +6,7 @@ use writer::primary::Primary;
 use writer::signalled::Signalled;
 
 // How many octets the lent frame has, and where the writer stands.
-#[derive(Drop)]
+#[derive(Clone, Copy)]
 pub struct Lent {
     room: usize,
     writer: Writer,

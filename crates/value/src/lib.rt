@@ -1,4 +1,6 @@
 // The values of the lines of a provisioning text: a number or a syntax word, each ended by LF (document 01, "Provisioning text").
+#![tactic(auto)]
+
 ghost use Rattle.std.specs.Prelude.{◌≡◌};
 ghost use Rattle.value.specs.Value.{digit_of, number_by, number_of, word_of};
 ghost use Rattle.record.specs.Record.{place};
@@ -6,7 +8,7 @@ ghost use Rattle.record.specs.Record.{place};
 use record::syntax::Syntax;
 
 // What stands behind a key.
-#[derive(Drop)]
+#[derive(Clone, Copy)]
 pub enum Value {
     // A number; or the place of a syntax word in document 01's list. `size` counts the octets with the LF. Both are 0 for any other
     // word.

@@ -1,4 +1,6 @@
 // Voice payloads, read and written (document 01, "Payload types": acelp, pcm, g727, g728, g7231).
+#![tactic(auto)]
+
 ghost use Rattle.std.specs.Prelude.{◌≡◌, true, ◌*◌, ◌/◌, ◌%◌, ◌^◌, ◌<◌, ◌≤◌, ◌∷◌};
 ghost use Rattle.octets.specs.Made.{fit_of, put_made, left_made};
 ghost use Rattle.refusal.specs.Numbers.{sound, type_not_allowed};
@@ -20,7 +22,7 @@ const G727_BITS: u64 = 0x514_54213_5433212;
 const TEN_OCTETS: u64 = 0x2;
 
 // What reading a voice payload tells; the body begins behind `front` octets.
-#[derive(Drop)]
+#[derive(Clone, Copy)]
 pub enum VoiceRead {
     Voice {
         sequence: VoiceCount,

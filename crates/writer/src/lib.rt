@@ -1,4 +1,6 @@
 // The writer: one sub-frame at a time into a lent frame (document 01, "Refusal numbers").
+#![tactic(auto)]
+
 mod lead;
 pub mod primary;
 pub mod signalled;

@@ -10,7 +10,7 @@ use payload::layout::Kind;
 use place::{Channel, Entered, Writer};
 
 // What writing a voice or data sub-frame answers.
-#[derive(Drop)]
+#[derive(Clone, Copy)]
 pub enum Primary {
     // The writer after it.
     PrimaryTaken(Writer),

@@ -13,7 +13,7 @@ use sid::Sid;
 use signalling::layout::Signalling;
 
 // What writing a sub-frame of digits, signalling, fax or silence answers.
-#[derive(Drop)]
+#[derive(Clone, Copy)]
 pub enum Signalled {
     // The writer after it.
     SignalledTaken(Writer),
