@@ -68,8 +68,8 @@ def voice(rng, record):
     coding = rng.randrange(14) if syntax == "pcm" else rng.randrange(15) if syntax == "g727" else 0
     front = bytes([rng.randrange(16) << 4 | coding]) if seq else b""
     if syntax == "g7231":
-        flags = rng.randrange(3)
-        return front + bytes([rng.randrange(64) << 2 | flags]) + octets(rng, [23, 19, 3][flags])
+        rate = rng.randrange(2)
+        return front + bytes([rng.randrange(64) << 2 | rate]) + octets(rng, 19 if rate else 23)
     each = PCM[coding] if syntax == "pcm" else G727[coding] if syntax == "g727" else 10
     return front + octets(rng, each * m)
 

@@ -1,5 +1,5 @@
-/* Plain C of document 01's work and document 02's fax replay, older payloads and silence frames of G.723.1, as plain.h has
-   it: parsed in place, state behind pointers, no heap. */
+/* Plain C of document 01's work and document 02's fax replay, as plain.h has it: parsed in place, state behind pointers, no
+   heap. */
 #include "plain.h"
 
 #include <errno.h>
@@ -115,8 +115,7 @@ PLAIN unsigned payload_layout(const struct record *record, unsigned type)
     return layouts[record->syntax][type];
 }
 
-/* Octets of speech by syntax and coding type, for each of the m; 0 where the coding type is not in the table. Under g7231 the
-   most that a frame has. */
+/* Octets of speech by syntax and coding type, for each of the m; 0 where the coding type is not in the table. */
 static const uint8_t speech[8][16] = {
     [ACELP] = {10},
     [PCM] = {40, 35, 30, 40, 35, 30, 25, 20, 15, 10, 25, 20, 15, 10},
@@ -125,10 +124,6 @@ static const uint8_t speech[8][16] = {
     [G7231] = {24},
 };
 
-/* Octets of a g7231 frame by the low two bits of its first octet, speech flag and rate: 4 of a silence frame, 0 where both are
-   set, which is reserved (document 02, wish 6). */
-static const uint8_t g7231_octets[4] = {24, 20, 4, 0};
-
 /* Checks speech octets, of which g7231 has at least one: 16, 14, 13 in this order. */
 static inline unsigned speech_check(const struct record *record, unsigned coding, const uint8_t *body, size_t length)
 {
@@ -136,9 +131,10 @@ static inline unsigned speech_check(const struct record *record, unsigned coding
     if (octets == 0)
         return CODING_WRONG;
     if (record->syntax == G7231) {
-        octets = g7231_octets[body[0] & 3];
-        if (octets == 0)
+        if ((body[0] & 3) == 3)
             return RESERVED_CODE;
+        if (body[0] & 1)
+            octets = 20;
     }
     return length == octets * record->m ? 0 : LENGTH_WRONG;
 }

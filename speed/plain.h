@@ -1,7 +1,7 @@
 /* Plain C of document 01's work: frames, payloads, writer, senders, receivers, provisioning text, listing; and of document
-   02's fax replay, older payloads and silence frames of G.723.1. "Document 01" is ../shared/documents/01-scope.md, "document
-   02" 02-change-requests.md beside it; a comment names its section or wish. Functions that may refuse return the refusal
-   number, 0 where there is none. What an out-parameter holds beside a refusal has no meaning, unless said. */
+   02's older payloads and fax replay. "Document 01" is ../shared/documents/01-scope.md, "document 02" 02-change-requests.md beside it; a comment
+   names its section or wish. Functions that may refuse return the refusal number, 0 where there is none. What an out-parameter
+   holds beside a refusal has no meaning, unless said. */
 #ifndef PLAIN_H
 #define PLAIN_H
 

@@ -1,7 +1,6 @@
 #!/usr/bin/env python3
 """The stack that each public function takes, its return address and its callees included: `stack.py OBJDUMP OBJECT..`, of object
-files that were compiled with -fstack-size-section and without inlining (see speed/stack); of a function that several files have, the
-most. Prints a table.
+files that were compiled with -fstack-size-section and without inlining (see speed/stack). Prints a table.
 """
 import glob
 import os
@@ -91,8 +90,7 @@ def public():
 def main(objdump, *paths):
     stack = {}
     for path in paths:
-        for name, octets in deepest(objdump, path).items():
-            stack[name] = max(octets, stack.get(name, 0))
+        stack.update(deepest(objdump, path))
     print("| function | octets of stack |")
     print("|---|---|")
     for name in public():

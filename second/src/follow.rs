@@ -137,13 +137,11 @@ mod tests {
     use super::*;
     use std::io::BufReader;
 
-    /// CID 5 acelp, 6 pcm, 7 fax, 8 data, 10 g7231 without seq and 11 with.
+    /// CID 5 acelp, 6 pcm, 7 fax, 8 data.
     const TEXT: &str = "cid=5\nsyntax=acelp\nm=1\nseq=0\n\
                         cid=6\nsyntax=pcm\nm=1\nseq=1\n\
                         cid=7\nsyntax=fax\nm=1\nseq=0\n\
-                        cid=8\nsyntax=data\nm=1\nseq=0\n\
-                        cid=10\nsyntax=g7231\nm=1\nseq=0\n\
-                        cid=11\nsyntax=g7231\nm=1\nseq=1\n";
+                        cid=8\nsyntax=data\nm=1\nseq=0\n";
 
     fn followed(cid: u8, input: &[u8]) -> String {
         let mut output = Vec::new();
@@ -284,18 +282,6 @@ mod tests {
         assert_eq!(fill_after(5, &[after]), "with=000000");
         let before = "450a 00000000000000000000 8501 0100200520052005";
         assert_eq!(fill_after(5, &[before]), "with=010005");
-    }
-
-    #[test]
-    fn wish_6_a_silence_frame_ends_a_sounding_tone() {
-        assert_eq!(fill_after(10, &["0a 02000000"]), "with=000000");
-        assert_eq!(fill_after(11, &["0b 30 02000000"]), "with=000000");
-        // Refused ones do not, nor does a SID.
-        let long_silence = format!("0a 02 {}", "00".repeat(23));
-        for other in ["0a 03000000", "0a 00000000", &long_silence, "8a04"] {
-            assert_eq!(fill_after(10, &[other]), "with=010005", "{other}");
-        }
-        assert_eq!(fill_after(11, &["0b 31 02000000"]), "with=010005");
     }
 
     #[test]

@@ -1,5 +1,5 @@
 //! The second program: an independent implementation of document 01 (rules and
-//! scope of the build), of wishes 1, 3 and 6 of document 02 and of FRF.11, used as
+//! scope of the build), of wishes 1 and 3 of document 02 and of FRF.11, used as
 //! evidence against the proved one.
 //!
 //! One module a heading of document 01:
@@ -17,7 +17,6 @@
 //!
 //! - `fax_replay`: wish 1, "Fax at the far end"
 //! - `receivers`: wish 3, "Late payloads through a tunnel"
-//! - `payload::voice`: wish 6, "Silence frames of G.723.1"
 //!
 //! Wish 2 (enhancement tables in less read-only memory) changes no answer, so it
 //! has no module; `generate::codings` makes the recording that shows it.

@@ -290,30 +290,6 @@ mod tests {
     }
 
     #[test]
-    fn wish_6_silence_frames_of_g7231() {
-        let text = "cid=9\nsyntax=g7231\nm=1\nseq=0\ncid=10\nsyntax=g7231\nm=1\nseq=1\n";
-        let zeros = |start: &str, count: usize| start.to_string() + &"00".repeat(count);
-        for (frame, cid, len, answer) in [
-            (zeros("0902", 3), 9, 4, 0),
-            // fe has the flags of 02.
-            ("09feaabbcc".to_string(), 9, 4, 0),
-            (zeros("0903", 3), 9, 4, 14),
-            (zeros("0902", 23), 9, 24, 13),
-            (zeros("0900", 23), 9, 24, 0),
-            (zeros("0901", 19), 9, 20, 0),
-            (zeros("0902", 1), 9, 2, 13),
-            // With seq the flags are in the second octet of the payload.
-            ("0a3002112233".to_string(), 10, 5, 0),
-            ("0a3102112233".to_string(), 10, 5, 16),
-        ] {
-            let output = listed(format!("{text}frame={frame}\n").as_bytes());
-            let wanted =
-                format!("frame=0\nsubs=1\ncid={cid}\ntype=0\nlen={len}\nanswer={answer}\n");
-            assert_eq!(output, wanted, "{frame}");
-        }
-    }
-
-    #[test]
     fn a_small_text_and_a_long_input() {
         let lines = "frame=0500000000000000000000\n".repeat(20_000);
         let output = after_text(&lines);

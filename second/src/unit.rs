@@ -387,28 +387,6 @@ mod tests {
     }
 
     #[test]
-    fn wish_6_the_card_is_handed_a_silence_frame() {
-        let low_rate = format!("09 01 {}", "00".repeat(19));
-        let call = |first: &str| lines(&[&format!("frame={first} {low_rate}"), "card=09"]);
-        assert_eq!(call("4904 02000000"), "source=0\noctets=02000000\n");
-        // Both flags, and the length of the high rate, are passed over.
-        let handed = format!("source=0\noctets=01{}\n", "00".repeat(19));
-        assert_eq!(call("4904 03000000"), handed);
-        assert_eq!(call(&format!("4918 02 {}", "00".repeat(23))), handed);
-    }
-
-    #[test]
-    fn wish_6_silence_frames_are_written() {
-        assert_eq!(written("voice=01090000 02112233"), "0902112233");
-        let frame = |first: &str, octets: usize| {
-            refused(&format!("voice=01090000{first}{}", "00".repeat(octets - 1)))
-        };
-        assert_eq!([frame("02", 4), frame("00", 24), frame("01", 20)], [0; 3]);
-        assert_eq!([frame("02", 24), frame("00", 4), frame("01", 4)], [13; 3]);
-        assert_eq!([frame("03", 4), frame("03", 20), frame("03", 24)], [14; 3]);
-    }
-
-    #[test]
     fn the_refusals_of_the_voice_card() {
         let call = |frame: &str, cid: &str| lines(&[frame, "silence=cafe", cid]);
         let refused = |number: u8| format!("source={number}\noctets=\n");

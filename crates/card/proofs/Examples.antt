@@ -5,11 +5,11 @@ use mathlib.Core.List.{List, [], ◌∷◌, ◌++◌, map}
 use mathlib.Core.Bool.{Bool, true, false}
 use lib.ListN.{replicate}
 use Rattle.record.specs.declared.syntax.Syntax.{Syntax}
-use Rattle.record.specs.declared.syntax.Syntax.TheVariants.{Acelp, Pcm, G7231, Data, Fax}
+use Rattle.record.specs.declared.syntax.Syntax.TheVariants.{Acelp, Pcm, Data, Fax}
 use Rattle.record.specs.Record.{syntax_at, packed, meaning, found_at}
 use Rattle.header.specs.Header.{told, header_at}
 use Rattle.frame.specs.Opening.{scan, scanned, opening}
-use Rattle.voice.specs.Voice.{block_octets, g7231_octets, body_octets, front_of, voice_read}
+use Rattle.voice.specs.Voice.{block_octets, body_octets, front_of, voice_read}
 use Rattle.payload.specs.Layout.{on_voice, on_fax, on_data}
 use Rattle.card.specs.declared.handing.Handed.{Handed}
 use Rattle.card.specs.declared.handing.Handed.TheVariants.{FromFrame, FromSilence, NotHanded}
@@ -18,12 +18,11 @@ use Rattle.card.specs.Handing.{serves, first_of, after_opening, handed, octets_o
 provisioned : Syntax → Bool → ℕ
 provisioned syntax seq = packed (record { syntax = syntax; m = 1; seq = seq })
 
--- CID 5 is acelp without a front octet, 6 fax, 7 data, 8 pcm, 10 and 11 g7231 without a front octet and with it, each with m 1;
--- no other is provisioned
+-- CID 5 is acelp without a front octet, 6 fax, 7 data, 8 pcm, each with m 1; no other is provisioned
 pub table : List ℕ
 table =
     replicate 5 0
-    ++ (provisioned Acelp false ∷ provisioned Fax false ∷ provisioned Data false ∷ provisioned Pcm true ∷ 0 ∷ provisioned G7231 false ∷ provisioned G7231 true ∷ replicate 244 0)
+    ++ (provisioned Acelp false ∷ provisioned Fax false ∷ provisioned Data false ∷ provisioned Pcm true ∷ replicate 247 0)
 
 -- ten octets of speech
 pub speech : List ℕ
@@ -48,16 +47,7 @@ examples =
     -- 480b09..05..: under pcm the front octet is handed on with the rest
     example (72 ∷ 11 ∷ 9 ∷ speech ++ 5 ∷ speech) 8 (FromFrame 2 11)
     ∷
-    -- 4a0402..0a01..: a silence frame of G.723.1 before a frame of rate 1
-    example (74 ∷ 4 ∷ 2 ∷ 0 ∷ 0 ∷ 0 ∷ 10 ∷ 1 ∷ replicate 19 0) 10 (FromFrame 2 4)
-    ∷
-    -- 4b053002..05..: one with its front octet, which is handed on with it
-    example (75 ∷ 5 ∷ 48 ∷ 2 ∷ 0 ∷ 0 ∷ 0 ∷ 5 ∷ speech) 11 (FromFrame 2 5)
-    ∷
-    -- 4a0403..0a01..: both flags, which do not pass, before a frame of rate 1
-    example (74 ∷ 4 ∷ 3 ∷ 0 ∷ 0 ∷ 0 ∷ 10 ∷ 1 ∷ replicate 19 0) 10 (FromFrame 7 20)
-    ∷
-    -- c50108..05..: digits stand before the payload
+    -- c50108..05..: digits stand before it
     example (197 ∷ 1 ∷ 8 ∷ replicate 8 0 ++ 5 ∷ speech) 5 (FromFrame 12 10)
     ∷
     -- 8504: a SID alone
@@ -94,7 +84,7 @@ examples =
     ∷ []
 
 pub tells : map (λ e. handed e.frame table e.cid) examples ≡ map (λ e. e.tells) examples
-unfolding examples example speech table provisioned handed after_opening first_of serves opening scanned scan header_at told found_at meaning packed syntax_at on_voice on_fax on_data voice_read front_of body_octets g7231_octets block_octets
+unfolding examples example speech table provisioned handed after_opening first_of serves opening scanned scan header_at told found_at meaning packed syntax_at on_voice on_fax on_data voice_read front_of body_octets block_octets
 tells = refl
 
 -- octets, place and source of a payload, of silence and of a refusal, with the frame at octet 100 of block 1 and silence at 0 of block 2

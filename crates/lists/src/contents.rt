@@ -74,11 +74,7 @@ fn g7231(state: u64) -> Body {
     let mut at = state;
     let flags = draws::below(&mut at, 3);
     let first = draws::octet(&mut at) & 252 | flags;
-    let len: usize = match flags {
-        0 => 24,
-        1 => 20,
-        _ => 4,
-    };
+    let len: usize = if flags == 1 { 20 } else { 24 };
     Body {
         len,
         first,

@@ -51,16 +51,12 @@ block_octets G7231 coding = 0
 block_octets Data coding = 0
 block_octets Fax coding = 0
 
--- A G.723.1 frame's first octet: "bit 1 rate, bit 2 speech flag. Both set: 14. Rate 0: 24 octets; rate 1: 20", but for a silence
--- frame: "rate bit 0 with the speech flag set means 4 octets" (document 02, wish 6).
+-- A G.723.1 frame's first octet: "bit 1 rate, bit 2 speech flag. Both set: 14. Rate 0: 24 octets; rate 1: 20."
 abbrev pub both_flags : ℕ → Bool
 both_flags first = eqb (first % 4) 3
 
-abbrev pub silence_frame : ℕ → Bool
-silence_frame first = eqb (first % 4) 2
-
 unfoldable pub g7231_octets : ℕ → ℕ
-g7231_octets first = cond (eqb (first % 2) 0) (cond (silence_frame first) 4 24) 20
+g7231_octets first = cond (eqb (first % 2) 0) 24 20
 
 abbrev pub is_g7231 : Syntax → Bool
 is_g7231 Acelp = false

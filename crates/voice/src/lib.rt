@@ -81,14 +81,11 @@ fn length_refusal(m: u8, each: usize, len: usize) -> u8
     refusal::LENGTH_WRONG
 }
 
-// The octets of one G.723.1 frame, from its first octet; 4 are those of a silence frame.
+// The octets of one G.723.1 frame, from its first octet.
 fn g7231_octets(first: u8) -> usize
     ensures { result ≡ g7231_octets first }
 {
-    if first % 2 == 0 {
-        return if first % 4 == 2 { 4 } else { 24 };
-    }
-    20
+    if first % 2 == 0 { 24 } else { 20 }
 }
 
 // The refusal number of one G.723.1 frame.

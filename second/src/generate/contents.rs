@@ -4,7 +4,7 @@
 use super::Random;
 use crate::hex;
 use crate::payload::allowed;
-use crate::payload::voice::{G7231_OCTETS, G727_OCTETS, PCM_OCTETS};
+use crate::payload::voice::{G727_OCTETS, PCM_OCTETS};
 use crate::provisioning::{Record, Syntax};
 
 /// What a line that writes says, last and CID aside.
@@ -154,14 +154,13 @@ impl<'r> ContentDrawer<'r> {
         self.body(octets * usize::from(record.m))
     }
 
-    /// A G.723.1 frame: rate and speech flag in the first octet. When it spoils,
-    /// the length is often that of other flags.
+    /// A G.723.1 frame: rate and speech flag in the first octet.
     fn g7231(&mut self) -> Vec<u8> {
-        let mut flags = self.random.small(0, 2);
-        let mut body = self.body(G7231_OCTETS[usize::from(flags)]);
-        if self.spoil && self.random.one_in(3) {
-            flags ^= self.random.small(1, 3);
-        }
+        let flags = match self.wrong() {
+            true => 3,
+            false => self.random.small(0, 2),
+        };
+        let mut body = self.body(if flags & 1 == 1 { 20 } else { 24 });
         if let Some(first) = body.first_mut() {
             *first = *first & !3 | flags;
         }

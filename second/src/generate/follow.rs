@@ -729,7 +729,6 @@ impl Generator {
 #[cfg(test)]
 mod tests {
     use super::*;
-    use crate::generate::reached::G7231Frames;
     use crate::provisioning::{read_text, Syntax};
     use crate::{follow, histogram};
     use std::collections::{BTreeMap, BTreeSet};
@@ -870,19 +869,6 @@ mod tests {
             reached(syntax, seq, 5, &[12]);
             reached(syntax, seq, 15, &[12]);
         }
-    }
-
-    #[test]
-    fn wish_6_all_flags_of_g7231_in_each_length() {
-        let mut frames = G7231Frames::default();
-        for seed in 0..100 {
-            let record = Generator::new(seed).unwrap().followed;
-            if record.syntax == Syntax::G7231 {
-                let input = generated(seed, 2000);
-                frames.count_read(&input, &followed(&input), |it| it == record.cid);
-            }
-        }
-        frames.assert_reached(5);
     }
 
     /// The outputs of some seeds, split into those of digits and of signalling.

@@ -67,7 +67,6 @@ impl Generator {
 #[cfg(test)]
 mod tests {
     use super::*;
-    use crate::generate::reached::G7231Frames;
     use crate::{histogram, listing};
     use std::collections::BTreeMap;
 
@@ -198,16 +197,5 @@ mod tests {
         reached("fax", 0, 1, &[0, 13, 14, 15]);
         reached("fax", 0, 3, &[12]);
         reached("data", 0, 1, &[12]);
-    }
-
-    #[test]
-    fn wish_6_all_flags_of_g7231_in_each_length() {
-        let mut frames = G7231Frames::default();
-        for seed in 0..20 {
-            let input = generated(seed, 2000);
-            let output = String::from_utf8(listed(&input)).unwrap();
-            frames.count_read(&input, &output, |_| true);
-        }
-        frames.assert_reached(10);
     }
 }

@@ -9,8 +9,6 @@ pub mod frames;
 pub mod late;
 pub mod list;
 pub mod payloads;
-#[cfg(test)]
-pub mod reached;
 pub mod records;
 pub mod text;
 pub mod trial;

@@ -2,7 +2,7 @@
 //! layouts here and not by the writer, so that the two can be compared.
 
 use super::Random;
-use crate::payload::voice::{G7231_OCTETS, G727_OCTETS, PCM_OCTETS};
+use crate::payload::voice::{G727_OCTETS, PCM_OCTETS};
 use crate::provisioning::{Record, Syntax};
 
 /// Draws payloads. When it spoils, each field is now and then a wrong one.
@@ -103,14 +103,15 @@ impl<'r> Drawer<'r> {
         self.random.octets(m * octets)
     }
 
-    /// A G.723.1 frame: rate and speech flag in the first octet. When it spoils,
-    /// the length is often that of other flags.
+    /// A G.723.1 frame: rate and speech flag in the first octet.
     fn g7231(&mut self) -> Vec<u8> {
-        let mut flags = self.random.small(0, 2);
-        let mut body = self.random.octets(G7231_OCTETS[usize::from(flags)]);
-        if self.spoil && self.random.one_in(3) {
-            flags ^= self.random.small(1, 3);
-        }
+        let flags = if self.wrong() {
+            3
+        } else {
+            self.random.small(0, 2)
+        };
+        let low_rate = (flags & 1 == 1) != self.wrong();
+        let mut body = self.random.octets(if low_rate { 20 } else { 24 });
         body[0] = body[0] & !3 | flags;
         body
     }

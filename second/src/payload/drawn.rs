@@ -6,7 +6,7 @@ use super::digits::{Digits, Window};
 use super::fax::{Command, Fax};
 use super::sid::Sid;
 use super::signalling::Signalling;
-use super::voice::{Voice, G7231_OCTETS, G727_OCTETS, PCM_OCTETS};
+use super::voice::{Voice, G727_OCTETS, PCM_OCTETS};
 use super::*;
 use crate::generate::Random;
 
@@ -89,13 +89,15 @@ impl ContentDrawer<'_> {
     }
 
     fn g7231(&mut self) -> &'static [u8] {
-        let mut flags = self.random.small(0, 2);
-        let mut body = self.octets(G7231_OCTETS[usize::from(flags)]).to_vec();
-        if self.wrong() {
-            flags ^= self.random.small(1, 3);
-        }
+        let low_rate = self.random.one_in(2);
+        let mut body = self.octets(if low_rate { 20 } else { 24 }).to_vec();
+        let both = self.wrong();
         if let Some(first) = body.first_mut() {
-            *first = *first & !3 | flags;
+            *first = match (low_rate, both) {
+                (_, true) => *first | 3,
+                (true, false) => *first & !2 | 1,
+                (false, false) => *first & !1,
+            };
         }
         body.leak()
     }

@@ -188,49 +188,20 @@ fn pcm_and_g727_by_coding_type() {
     }
 }
 
-/// A G.723.1 frame of so many octets with this first octet.
-fn g7231_frame(first: u8, octets: usize) -> Vec<u8> {
-    let mut body = vec![0xa5; octets];
-    body.iter_mut().take(1).for_each(|it| *it = first);
-    body
-}
-
 #[test]
-fn wish_6_lengths_by_the_first_octet() {
+fn g7231_without_seq() {
     let table = one(Syntax::G7231, 1, 0);
-    let lengths = |first| -> Vec<usize> {
-        let accepted = |it: &usize| answer(&table, 0, &g7231_frame(first, *it)) == 0;
-        (0..100).filter(accepted).collect()
-    };
-    let wanted = [[24], [20], [4], [24], [20], [4]];
-    assert_eq!([0, 1, 2, 252, 253, 254].map(lengths), wanted);
-    assert_eq!(lengths(3), []);
-    assert_eq!(lengths(255), []);
-}
-
-#[test]
-fn wish_6_every_first_octet_and_length_of_g7231() {
-    for (seq, front) in [(0, &[][..]), (1, &[0x70][..])] {
-        let table = one(Syntax::G7231, 1, seq);
-        for first in 0..=255u8 {
-            for octets in 0..=30 {
-                let wanted = match (first % 4, octets) {
-                    (_, 0) => Err(13),
-                    (3, _) => Err(14),
-                    (0, 24) | (1, 20) | (2, 4) => Ok(()),
-                    _ => Err(13),
-                };
-                let body = &g7231_frame(first, octets);
-                let payload = [front, body].concat();
-                let content = Content::Voice(Voice {
-                    sequence: 7 * seq,
-                    coding_type: 0,
-                    body,
-                });
-                assert_eq!(read(&table, 5, 0, &payload), wanted.map(|()| content));
-                let written = write(&table, 5, &content);
-                assert_eq!(written, wanted.map(|()| (0, payload)));
-            }
+    assert_eq!(answer(&table, 0, &[]), 13);
+    for first in 0..=255u8 {
+        for length in 1..30 {
+            let mut payload = zeros(length);
+            payload[0] = first;
+            let wanted = match (first % 4, length) {
+                (3, _) => 14,
+                (0 | 2, 24) | (1, 20) => 0,
+                _ => 13,
+            };
+            assert_eq!(answer(&table, 0, &payload), wanted);
         }
     }
 }
@@ -245,6 +216,18 @@ fn readings_g7231_with_seq() {
     assert_eq!(answer_hex(&table, 0, "0103"), 16);
     assert_eq!(answer_hex(&table, 0, "0003"), 14);
     assert_eq!(answer_hex(&table, 0, "0000"), 13);
+    for first in 0..=255u8 {
+        for length in 2..30 {
+            let mut payload = zeros(length);
+            payload[1] = first;
+            let wanted = match (first % 4, length) {
+                (3, _) => 14,
+                (0 | 2, 25) | (1, 21) => 0,
+                _ => 13,
+            };
+            assert_eq!(answer(&table, 0, &payload), wanted);
+        }
+    }
 }
 
 #[test]

@@ -1,6 +1,5 @@
 //! Document 01, "Payload types": acelp, pcm, g727, g728, g7231 with and without
-//! the front octet; FRF.11 annexes E to I. Document 02, wish 6: the silence frame
-//! of G.723.1.
+//! the front octet; FRF.11 annexes E to I.
 
 use crate::provisioning::{Record, Syntax};
 use crate::refusal::*;
@@ -10,12 +9,10 @@ pub const PCM_OCTETS: [usize; 14] = [40, 35, 30, 40, 35, 30, 25, 20, 15, 10, 25,
 /// Octets of one encoding interval of g727 by coding type (FRF.11 figure G - 2).
 pub const G727_OCTETS: [usize; 15] = [10, 5, 10, 15, 15, 20, 25, 15, 5, 10, 20, 25, 20, 5, 25];
 
-/// Octets of a G.723.1 frame by its flags: high rate, low rate (FRF.11 I.4) and
-/// silence (document 02, wish 6). Both flags set are reserved.
-pub const G7231_OCTETS: [usize; 3] = [24, 20, 4];
-/// The flags, in the first octet of a G.723.1 frame: bit 1 the rate (FRF.11
-/// RATEFLAG), bit 2 the speech flag (VADFLAG).
-const FLAGS: u8 = 0b11;
+/// The first octet of a G.723.1 frame, bit 1: the rate (FRF.11 RATEFLAG).
+const RATE: u8 = 0b01;
+/// The first octet of a G.723.1 frame, bit 2: the speech flag (FRF.11 VADFLAG).
+const SPEECH_FLAG: u8 = 0b10;
 
 /// A voice payload.
 #[derive(Clone, Copy, Debug, PartialEq, Eq)]
@@ -54,7 +51,8 @@ fn check_coding_type(record: &Record, coding_type: u8) -> Result<(), Refusal> {
 
 /// 14 when both flags of g7231 are set.
 fn check_flags(record: &Record, body: &[u8]) -> Result<(), Refusal> {
-    if record.syntax == Syntax::G7231 && body[0] & FLAGS == FLAGS {
+    let both = RATE | SPEECH_FLAG;
+    if record.syntax == Syntax::G7231 && body[0] & both == both {
         return Err(RESERVED);
     }
     Ok(())
@@ -67,7 +65,8 @@ fn body_octets(record: &Record, coding_type: u8, body: &[u8]) -> usize {
     match record.syntax {
         Syntax::Pcm => m * PCM_OCTETS[code],
         Syntax::G727 => m * G727_OCTETS[code],
-        Syntax::G7231 => G7231_OCTETS[usize::from(body[0] & FLAGS)],
+        Syntax::G7231 if body[0] & RATE == 0 => 24,
+        Syntax::G7231 => 20,
         _ => m * 10,
     }
 }

@@ -6,15 +6,11 @@ use Rattle.voice.proofs.g7231_octets.Tie as tie
 
 returns : tie.Need-returns
 unfolding g7231_octets
-returns c = simp (eq-eqb _ _ c.before.if1.true, eq-eqb _ _ c.if2.true)
+returns c = simp (eq-eqb _ _ c.if1.true)
 
 returns-2 : tie.Need-returns-2
 unfolding g7231_octets
-returns-2 c = simp (eq-eqb _ _ c.before.if1.true, ne_eqb _ _ c.if2.false)
-
-returns-3 : tie.Need-returns-3
-unfolding g7231_octets
-returns-3 c = simp (ne_eqb _ _ c.if1.false)
+returns-2 c = simp (ne_eqb _ _ c.if1.false)
 
 pub g7231-octets-spec : {M : Type 1} → statement M
-g7231-octets-spec = tie.close (tie.spec returns returns-2 returns-3)
+g7231-octets-spec = tie.close (tie.spec returns returns-2)
