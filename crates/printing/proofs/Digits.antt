@@ -1,5 +1,5 @@
 -- The printed digits tell the number.
-use Prim.Native.Nat.{ℕ, zero, suc, ◌+◌, ◌/◌, ◌%◌, ◌<◌, ◌≤◌}
+use Prim.Native.Nat.{ℕ, zero, suc, ◌+◌, ◌-◌, ◌*◌, ◌/◌, ◌%◌, ◌<◌, ◌≤◌}
 use mathlib.Core.Path.{◌≡◌, refl, ◌∙◌}
 use mathlib.Core.List.{List, [], ◌∷◌, ◌++◌}
 use mathlib.Core.Logic.{⊎_elim}
@@ -12,7 +12,7 @@ use Rattle.printing.proofs.Spelling.{beyond}
 
 value-append : (before : ℕ) (xs ys : List ℕ) → value_of before (xs ++ ys) ≡ value_of (value_of before xs) ys
 value-append before [] ys = refl
-value-append before (x ∷ xs) ys = value-append _ xs ys
+value-append before (x ∷ xs) ys = value-append (before * 10 + (x - 48)) xs ys
 
 one_more : (room n : ℕ) → value_of 0 (digits room (n / 10)) ≡ n / 10 → value_of 0 (digits (suc room) n) ≡ n
 unfolding digits
