@@ -1,0 +1,15 @@
+-- `signalling::layout::pairs_of` meets its contract: after i turns i octets of two samples each stand in their places.
+use Prim.Native.Nat.{ℕ, ◌+◌, ◌-◌, ◌<◌, ◌≤◌}
+use mathlib.Core.Path.{◌≡◌}
+use native.Mathlib.Omega.{arith}
+use lib.ListN.{get_or, replicate}
+use lib.Seq.{paste, paste-zero}
+use Rattle.signalling.specs.Layout.{pairs}
+use Rattle.signalling.proofs.LayoutBack as layout
+use Rattle.signalling.proofs.layout.pairs_of.Given as goal
+
+abbrev pub invariant-loop-i : goal.invariant-loop-i
+invariant-loop-i l = (l.i ≤ 15) × (l.octets ≡ paste (replicate 15 0) 0 (pairs 15 0 l.samples) l.i)
+
+abbrev pub decreases-loop-i : goal.decreases-loop-i
+decreases-loop-i l = 15 - l.i
