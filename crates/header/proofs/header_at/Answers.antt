@@ -8,43 +8,28 @@ use native.Mathlib.Omega.{arith}
 use Rattle.header.proofs.HeaderCases as cases
 use Rattle.header.proofs.HeaderRead as header
 use Rattle.header.proofs.header_at.Goals as goal
-use Rattle.header.proofs.header_at.Goals.{After-cid_of-cid, Joined-octet1-gt127}
+use Rattle.header.proofs.header_at.Goals.{After-cid_of-cid, then-octet1-gt127+else-frame-next, else-octet1-gt127}
 
 -- octet 1a was read, or is not there
-way :
-    (c : Joined-octet1-gt127)
-    → let a = c.args in
-    header.Way a.frame.now a.at c.if-octet1-gt127.octet1a c.if-octet1-gt127.next
+way : (c : After-cid_of-cid) → header.Way c.args.frame.now c.args.at c.if-octet1-gt127.octet1a c.if-octet1-gt127.next
 way c =
     let a = c.args in
-    let octet = c.shared_slice_known-2-1.given a.at in
-    ⊎_elim (λ w. header.with-1a a.frame.now a.at w.0.taken (omega (arith, octet)) w.3 w.4)
-    (λ w. header.without-1a a.frame.now a.at w.0.left w.1 w.2)
-    c.if-octet1-gt127.branch
+    elim c.if-octet1-gt127.branch [
+      then-octet1-gt127+else-frame-next w ↦ header.with-1a a.frame.now a.at w.if-octet1-gt127.true (omega (arith, c.type_inv.frame a.at)) w.octet1a-is w.next-is
+    | else-octet1-gt127 w ↦ header.without-1a a.frame.now a.at w.if-octet1-gt127.false w.octet1a-is w.next-is
+    ]
 
-within : (c : Joined-octet1-gt127) → c.if-octet1-gt127.next ≤ length c.args.frame.now
-within c = ⊎_elim (λ w. omega (arith, w.1.left, w.4)) (λ w. omega (arith, w.2, c.if-frame-at.false)) c.if-octet1-gt127.branch
-
--- octet 1a was read, or is not there
-way-at-After-cid_of-cid :
-    (c : After-cid_of-cid)
-    → let a = c.args in
-    header.Way a.frame.now a.at c.if-octet1-gt127.octet1a c.if-octet1-gt127.next
-way-at-After-cid_of-cid c =
-    let a = c.args in
-    let octet = c.shared_slice_known-2-1.given a.at in
-    ⊎_elim (λ w. header.with-1a a.frame.now a.at w.0.taken (omega (arith, octet)) w.3 w.4)
-    (λ w. header.without-1a a.frame.now a.at w.0.left w.1 w.2)
-    c.if-octet1-gt127.branch
+within : (c : After-cid_of-cid) → c.if-octet1-gt127.next ≤ length c.args.frame.now
+within c =
+    elim c.if-octet1-gt127.branch [
+      then-octet1-gt127+else-frame-next w ↦ omega (arith, w.if-frame-next.false, w.next-is)
+    | else-octet1-gt127 w ↦ omega (arith, w.next-is, c.if-frame-at.false)
+    ]
 
 begun :
     (c : After-cid_of-cid)
-    → let j = c.before in
-    let a = j.args in
-    header.Begun a.frame.now a.at j.if-octet1-gt127.octet1a j.if-octet1-gt127.next c.cid_of-cid.result
-begun c =
-    let j = c.before in
-    record { here = j.if-frame-at.false; way = way-at-After-cid_of-cid c; cid-is = c.cid_of-cid.ensures }
+    → header.Begun c.args.frame.now c.args.at c.if-octet1-gt127.octet1a c.if-octet1-gt127.next c.cid_of-cid.result
+begun c = record { here = c.if-frame-at.false; way = way c; cid-is = c.cid_of-cid.ensures }
 
 pub returns-then-frame-at : goal.returns-then-frame-at
 returns-then-frame-at c = let a = c.args in sym (cases.nothing a.frame.now a.at c.if-frame-at.true)
@@ -55,7 +40,7 @@ returns-then-frame-next c = let a = c.args in
 
 pub returns-then-octet1-eq0 : goal.returns-then-octet1-eq0
 returns-then-octet1-eq0 c = let d = c.before in
-    c.unless_reserved.ensures ∙ header.last_one (begun (goal.at.returns-then-octet1-eq0 c).After-cid_of-cid) (within (goal.at.returns-then-octet1-eq0 c).Joined-octet1-gt127) c.if-octet1-eq0.true
+    c.unless_reserved.ensures ∙ header.last_one (begun (goal.at.returns-then-octet1-eq0 c).After-cid_of-cid) (within (goal.at.returns-then-octet1-eq0 c).After-cid_of-cid) c.if-octet1-eq0.true
 
 pub returns-then-left-eq0 : goal.returns-then-left-eq0
 returns-then-left-eq0 c = let d = c.before in

@@ -5,23 +5,20 @@ use borrow.Author.Rules.{rules}
 use native.Mathlib.Omega.{arith}
 use Rattle.header.proofs.HeaderRead as header
 use Rattle.header.proofs.sub_at.Goals as goal
-use Rattle.header.proofs.sub_at.Goals.{After-cid_of-cid}
+use Rattle.header.proofs.sub_at.Goals.{After-cid_of-cid, then-octet1-gt127, else-octet1-gt127}
 
 begun :
     (c : After-cid_of-cid)
-    → let j = c.before in
-    let a = j.args in
-    header.Begun a.frame.now a.at j.if-octet1-gt127.octet1a j.if-octet1-gt127.next c.cid_of-cid.result
+    → header.Begun c.args.frame.now c.args.at c.if-octet1-gt127.octet1a c.if-octet1-gt127.next c.cid_of-cid.result
 begun c =
-    let j = c.before in
-    let a = j.args in
-    let octet = j.shared_slice_known-2-1.given a.at in
+    let a = c.args in
     record {
-      here = j.if-frame-at.false;
+      here = c.if-frame-at.false;
       way =
-          ⊎_elim (λ w. header.with-1a a.frame.now a.at w.0.taken (omega (arith, octet)) (w.2 ∙ w.1.ensures) w.3)
-          (λ w. header.without-1a a.frame.now a.at w.0.left w.1 w.2)
-          j.if-octet1-gt127.branch;
+          elim c.if-octet1-gt127.branch [
+            then-octet1-gt127 w ↦ header.with-1a a.frame.now a.at w.if-octet1-gt127.true (omega (arith, c.type_inv.frame a.at)) (w.octet1a-is ∙ w.octet-octet1a.ensures) w.next-is
+          | else-octet1-gt127 w ↦ header.without-1a a.frame.now a.at w.if-octet1-gt127.false w.octet1a-is w.next-is
+          ];
       cid-is = c.cid_of-cid.ensures;
     }
 
