@@ -1,13 +1,10 @@
 -- Commands, by their codes; those but on have no octets of their own.
 use Prim.Native.Nat.{ℕ, zero, suc, ◌+◌, ◌≤◌}
 use mathlib.Core.Path.{◌≡◌, refl}
-use mathlib.Core.List.{[], ◌∷◌}
+use mathlib.Core.List.{[]}
 use mathlib.Core.Bool.{Bool, false}
 use native.Mathlib.Omega.{arith}
-use types.Run.{OneOf, miss}
-use denote.Enum.Declared.{tag_of}
 use lib.ListN.{length}
-use Rattle.fax.specs.contracts.Command.{the_type}
 use Rattle.fax.specs.declared.Stamp.{Stamp}
 use Rattle.fax.specs.declared.Command.{Command}
 use Rattle.fax.specs.declared.Command.TheVariants.{Off, On, Page, EndOfFrame, Abort}
@@ -25,12 +22,12 @@ plain EndOfFrame other = record { none = refl; taken = refl }
 plain Abort other = record { none = refl; taken = refl }
 
 -- an arm of a match for every command but on
-pub by-tag : (command : Command) → OneOf (0 ∷ 2 ∷ 3 ∷ 4 ∷ []) (tag_of the_type command) → Plain command
-by-tag Off t = plain Off (λ e. omega arith)
-by-tag (On hdlc modulation frequency) t = absurd (miss (0 ∷ 2 ∷ 3 ∷ 4 ∷ []) 1 tt t)
-by-tag Page t = plain Page (λ e. omega arith)
-by-tag EndOfFrame t = plain EndOfFrame (λ e. omega arith)
-by-tag Abort t = plain Abort (λ e. omega arith)
+pub not-on : (command : Command) → ((hdlc : Bool) (modulation frequency : ℕ) → command ≡ On hdlc modulation frequency → ⊥) → Plain command
+not-on Off other = plain Off (λ e. omega arith)
+not-on (On hdlc modulation frequency) other = absurd (other hdlc modulation frequency refl)
+not-on Page other = plain Page (λ e. omega arith)
+not-on EndOfFrame other = plain EndOfFrame (λ e. omega arith)
+not-on Abort other = plain Abort (λ e. omega arith)
 
 pub plain-front : (stamp : Stamp) (command : Command) → Plain command → front_of stamp command ≡ 1 + length (stamp_octets stamp) + 0
 unfolding front_of

@@ -2,7 +2,7 @@
 use mathlib.Core.Path.{sym, ap, ◌∙◌}
 use native.Mathlib.Omega.{arith}
 use Rattle.fax.specs.Fax.{refused_on}
-use Rattle.fax.proofs.Commands.{by-tag}
+use Rattle.fax.proofs.Commands.{not-on}
 use Rattle.fax.proofs.FaxCases as cases
 use borrow.Author.Rules.{rules}
 use Rattle.fax.proofs.head_octets.Goals as goal
@@ -12,11 +12,11 @@ overflow_add-result c = let coded = cases.modulation-small c.in-On.modulation c.
     omega (arith, coded, c.bit.ensures.1)
 
 pub returns-in-On : goal.returns-in-On
-returns-in-On c = let s = c.before in
+returns-in-On c = let s = c in
     rw (c.ei1_for.ensures.0, c.code_of.ensures.0, c.stamp_number-time.ensures, c.bit.ensures.0, c.in-On.is)
     (cases.on-head s.args.sequence s.args.stamp c.in-On.hdlc c.in-On.modulation c.in-On.frequency (rw c.in-On.is at s.requires.1))
 
 pub returns-in_default : goal.returns-in_default
 returns-in_default c = let a = c.args in
     rw (c.ei1_for.ensures.0, c.code_of.ensures.0, c.stamp_number-time.ensures)
-    (cases.plain-head a.sequence a.stamp a.command (by-tag a.command c.in-On.keys2))
+    (cases.plain-head a.sequence a.stamp a.command (not-on a.command c.in_default.not-On))
