@@ -12,4 +12,4 @@ pub returns : goal.returns
 returns c = let a = c.args in
     let thirty : 30 ≡ length a.samples = search rules in
     let left : c.wide-from.result ≡ unused_count a.step = omega arith in
-    windows.carried (c.wide-from.result * 10) a.samples thirty (omega arith) _ _ c.put_octets.ensures (unused_count a.step * 10) (omega arith)
+    windows.carried (c.wide-from.result * 10) a.samples thirty (omega arith) _ _ (c.put_octets.ensures.answer, c.put_octets.ensures.holds) (unused_count a.step * 10) (omega arith)
