@@ -1,10 +1,6 @@
 -- `printing::append::put_text` meets its contract: after i turns the first i octets stand.
 use Prim.Native.Nat.{◌-◌, ◌≤◌}
-use mathlib.Core.Path.{refl}
 use lib.ListN.{length, take}
-use native.Mathlib.Omega.{arith}
-use Rattle.printing.proofs.Appending as appending
-use borrow.Author.Rules.{rules}
 use Rattle.printing.specs.Room.{Appended}
 use Rattle.printing.proofs.append.put_text.Given as goal
 

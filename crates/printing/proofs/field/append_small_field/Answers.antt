@@ -1,6 +1,5 @@
 -- `printing::field::append_small_field` meets its contract: the name, the digits, LF.
 use native.Mathlib.Omega.{arith}
-use borrow.Author.Rules.{rules}
 use Rattle.printing.proofs.Appending as appending
 use Rattle.printing.proofs.field.append_small_field.Goals as goal
 

@@ -1,7 +1,6 @@
 -- `printing::field::put_field` meets its contract: the field where the room is there.
 use Prim.Native.Nat.{◌+◌}
 use lib.ListN.{length}
-use borrow.Author.Rules.{rules}
 use Rattle.printing.specs.Field.{field}
 use Rattle.printing.proofs.Appending as appending
 use Rattle.printing.proofs.field.put_field.Goals as goal

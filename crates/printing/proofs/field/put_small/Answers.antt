@@ -2,7 +2,6 @@
 use native.Mathlib.Omega.{arith}
 use Rattle.printing.proofs.Appending as appending
 use Rattle.printing.proofs.Spelling as spelling
-use borrow.Author.Rules.{rules}
 use Rattle.printing.proofs.field.put_small.Goals as goal
 
 pub returns-then-n-lt10 : goal.returns-then-n-lt10

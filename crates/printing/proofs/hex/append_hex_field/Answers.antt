@@ -1,5 +1,4 @@
 -- `printing::hex::append_hex_field` meets its contract: the name, the digits, LF.
-use borrow.Author.Rules.{rules}
 use Rattle.printing.proofs.Appending as appending
 use Rattle.printing.proofs.hex.append_hex_field.Goals as goal
 

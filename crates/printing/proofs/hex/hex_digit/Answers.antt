@@ -1,5 +1,4 @@
 -- `printing::hex::hex_digit` meets its contract.
-use borrow.Author.Rules.{rules}
 use borrow.Author.Tests.{lt-ltb, le-ltb}
 use Rattle.printing.specs.Hex.{hex_digit}
 use Rattle.printing.proofs.hex.hex_digit.Goals as goal

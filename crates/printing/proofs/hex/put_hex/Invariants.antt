@@ -1,12 +1,8 @@
 -- `printing::hex::put_hex` meets its contract: after i turns the first i octets stand.
 use Prim.Native.Nat.{◌-◌, ◌*◌, ◌≤◌}
-use mathlib.Core.Path.{refl}
 use lib.ListN.{length, take}
-use native.Mathlib.Omega.{arith}
-use borrow.Author.Rules.{rules}
 use Rattle.printing.specs.Hex.{hex_of}
 use Rattle.printing.specs.Room.{Appended}
-use Rattle.printing.proofs.Appending as appending
 use Rattle.printing.proofs.hex.put_hex.Given as goal
 
 abbrev pub invariant-loop-i : goal.invariant-loop-i

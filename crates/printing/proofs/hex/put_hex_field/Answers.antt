@@ -1,7 +1,6 @@
 -- `printing::hex::put_hex_field` meets its contract: the line where the room is there.
 use Prim.Native.Nat.{◌+◌, ◌*◌}
 use lib.ListN.{length}
-use borrow.Author.Rules.{rules}
 use Rattle.printing.specs.Field.{hex_field}
 use Rattle.printing.proofs.Appending as appending
 use Rattle.printing.proofs.hex.put_hex_field.Goals as goal

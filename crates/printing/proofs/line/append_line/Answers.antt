@@ -1,5 +1,4 @@
 -- `printing::line::append_line` meets its contract: the text, LF.
-use borrow.Author.Rules.{rules}
 use Rattle.printing.proofs.Appending as appending
 use Rattle.printing.proofs.line.append_line.Goals as goal
 

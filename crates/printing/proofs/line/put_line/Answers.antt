@@ -1,7 +1,6 @@
 -- `printing::line::put_line` meets its contract: the line where the room is there.
 use Prim.Native.Nat.{◌+◌}
 use lib.ListN.{length}
-use borrow.Author.Rules.{rules}
 use Rattle.printing.specs.Field.{line}
 use Rattle.printing.proofs.Appending as appending
 use Rattle.printing.proofs.line.put_line.Goals as goal

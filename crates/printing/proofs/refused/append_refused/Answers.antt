@@ -1,6 +1,5 @@
 -- `printing::refused::append_refused` meets its contract: three fields, one behind the other.
 use native.Mathlib.Omega.{arith}
-use borrow.Author.Rules.{rules}
 use Rattle.printing.proofs.Appending as appending
 use Rattle.printing.specs.Refused.{refused_listing}
 use Rattle.printing.proofs.refused.append_refused.Goals as goal

@@ -1,6 +1,5 @@
 -- `printing::refused::append_refused_text` meets its contract: two fields, one behind the other.
 use native.Mathlib.Omega.{arith}
-use borrow.Author.Rules.{rules}
 use Rattle.printing.specs.Refused.{text_listing}
 use Rattle.printing.proofs.Appending as appending
 use Rattle.printing.proofs.refused.append_refused_text.Goals as goal

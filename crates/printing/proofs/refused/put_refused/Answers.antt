@@ -1,5 +1,4 @@
 -- `printing::refused::put_refused` meets its contract: three fields where the room is there.
-use borrow.Author.Rules.{rules}
 use Rattle.printing.specs.Refused.{refused_listing}
 use Rattle.printing.proofs.Appending as appending
 use Rattle.printing.proofs.refused.put_refused.Goals as goal

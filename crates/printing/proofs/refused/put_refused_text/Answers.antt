@@ -1,5 +1,4 @@
 -- `printing::refused::put_refused_text` meets its contract: two fields where the room is there.
-use borrow.Author.Rules.{rules}
 use Rattle.printing.specs.Refused.{text_listing}
 use Rattle.printing.proofs.Appending as appending
 use Rattle.printing.proofs.refused.put_refused_text.Goals as goal

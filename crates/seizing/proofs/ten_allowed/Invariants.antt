@@ -1,0 +1,15 @@
+-- `seizing::ten_allowed` meets its contract: after i turns the samples from i on decide.
+use Prim.Native.Nat.{◌-◌, ◌≤◌}
+use mathlib.Core.Path.{◌≡◌, refl, sym, ◌∙◌}
+use native.Mathlib.Omega.{arith}
+use borrow.Author.Rules.{rules}
+use borrow.Author.Tests.{not-true, not-false}
+use Rattle.signalling.specs.Layout.{all_allowed}
+use Rattle.signalling.proofs.Samples as samples-of
+use Rattle.seizing.proofs.ten_allowed.Given as goal
+
+abbrev pub invariant-loop-i : goal.invariant-loop-i
+invariant-loop-i l = (l.i ≤ 10) × (all_allowed 10 0 l.samples ≡ all_allowed (10 - l.i) l.i l.samples)
+
+abbrev pub decreases-loop-i : goal.decreases-loop-i
+decreases-loop-i l = 10 - l.i
