@@ -9,7 +9,7 @@ use borrow.Author.Tests.{lt-ltb, le-ltb, le-leb, lt-leb, eq-eqb, ne_eqb}
 use lib.Dec.{ltb}
 use lib.ListN.{length, get_or, take, drop, set, length-append, length-drop, drop_of_length-le}
 use lib.Seq.{drop-cons, drop-drop, get_or-drop, take_all, take_at, length-take-le}
-use Rattle.io.specs.Counts.{IsPrefixLen}
+use Rattle.console.specs.Counts.{IsPrefixLen}
 use Rattle.refusal.specs.Order.{◌or◌}
 use Rattle.octets.specs.Room.{written}
 use Rattle.octets.proofs.Writes as writes

@@ -1,6 +1,6 @@
 // Octets that a line states in lower-case hex.
 ghost use Rattle.std.specs.Prelude.{◌≡◌, length, take, drop};
-ghost use Rattle.io.specs.Counts.{IsPrefixLen};
+ghost use Rattle.console.specs.Counts.{IsPrefixLen};
 ghost use Rattle.octets.specs.Room.{written};
 ghost use Rattle.hexline.specs.Hex.{hex_value};
 ghost use Rattle.console.specs.Hex.{leading, decoded, signed_of};

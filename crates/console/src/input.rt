@@ -1,8 +1,9 @@
-// Standard input, line by line.
+// Input, line by line.
 ghost use Rattle.std.specs.Prelude.{◌≡◌, false, take, set};
 ghost use Rattle.octets.specs.Text.{has_lf};
 
 use octets::text::LF;
+use std::io::Read;
 
 // How much of the block that was read last is taken, and how much it has.
 #[derive(Clone, Copy)]
@@ -27,8 +28,8 @@ pub struct Line {
     pub input: Input,
 }
 
-// Takes a character, from a new block when the last one is used up.
-fn next_character(block: &mut [u8], input: Input) -> Next {
+// Takes a character, from a new block when the last one is used up. A read that fails ends the input.
+fn next_character(reader: &mut impl Read, block: &mut [u8], input: Input) -> Next {
     let taken = input.taken;
     if taken < input.have {
         return Next {
@@ -40,8 +41,7 @@ fn next_character(block: &mut [u8], input: Input) -> Next {
             },
         };
     }
-    let got = libc::read(0, block);
-    let have = io::count(got, block);
+    let have = reader.read(block).unwrap_or(0);
     Next {
         ended: have == 0,
         character: octets::octet(block, 0),
@@ -59,13 +59,13 @@ fn keep(room: &mut [u8], at: usize, character: u8)
 }
 
 // Reads a line. A longer one than the room is read to its end; none uses the count up. What the room has of it has no LF.
-pub fn read_line(block: &mut [u8], room: &mut [u8], input: Input) -> Line
+pub fn read_line(reader: &mut impl Read, block: &mut [u8], room: &mut [u8], input: Input) -> Line
     ensures { has_lf (take result.size room.new) ≡ false }
 {
     let mut now = input;
     let mut size: usize = 0;
     while size < usize::MAX {
-        let next = next_character(block, now);
+        let next = next_character(reader, block, now);
         now = next.input;
         if next.ended {
             return Line {

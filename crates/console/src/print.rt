@@ -1,35 +1,39 @@
-// Lines of the output.
+// Lines of the output. Where a write fails, what it was to write is left out, and nothing is said of it.
+
+// Octets as they are.
+fn raw(rt: &impl Print, octets: &[u8]) {
+    let _ = rt.write_all(octets);
+}
 
 // A name alone.
-pub fn name(name: &[u8]) {
-    io::write_all(1, name);
-    io::write_all(1, b"\n");
+pub fn name(rt: &impl Print, name: &[u8]) {
+    raw(rt, name);
+    raw(rt, b"\n");
 }
 
 // A name and a decimal number.
-pub fn number(name: &[u8], number: u64) {
-    io::write_all(1, name);
-    io::print_decimal(1, number);
-    io::write_all(1, b"\n");
+pub fn number(rt: &impl Print, name: &[u8], number: u64) {
+    raw(rt, name);
+    let _ = println!(rt; "{number}");
 }
 
 // An octet in hex, with no line end.
-fn octet(octet: u8) {
-    io::print_hex(1, octet as u64, 2);
+fn octet(rt: &impl Print, octet: u8) {
+    let _ = print!(rt; "{octet:02x}");
 }
 
 // A name and the octets from a place up to another in hex.
-pub fn part(name: &[u8], octets: &[u8], from: usize, to: usize) {
-    io::write_all(1, name);
+pub fn part(rt: &impl Print, name: &[u8], octets: &[u8], from: usize, to: usize) {
+    raw(rt, name);
     let mut i = from;
     while i < to {
-        octet(octets::octet(octets, i));
+        octet(rt, octets::octet(octets, i));
         i += 1;
     }
-    io::write_all(1, b"\n");
+    raw(rt, b"\n");
 }
 
 // A name and octets in hex.
-pub fn octets(name: &[u8], octets: &[u8]) {
-    part(name, octets, 0, octets.len());
+pub fn octets(rt: &impl Print, name: &[u8], octets: &[u8]) {
+    part(rt, name, octets, 0, octets.len());
 }

@@ -10,37 +10,37 @@ use sid::Sid;
 use signalling::layout::Signalling;
 use writer::primary::Primary;
 
-pub fn take(line: &[u8], table: &[u16; 256]) {
+pub fn take(rt: &impl Print, line: &[u8], table: &[u16; 256]) {
     let letter = octets::octet(line, 0);
     let o = line::octets_of(line);
     match letter {
-        b'c' => refusal(check(&o, table)),
-        b'w' => written(frame(&o, table)),
-        _ => fits(fit(letter, &o)),
+        b'c' => refusal(rt, check(&o, table)),
+        b'w' => written(rt, frame(&o, table)),
+        _ => fits(rt, fit(letter, &o)),
     }
 }
 
 // A refusal number, or 0.
-fn refusal(number: u8) {
-    console::print::number(b"", number as u64);
+fn refusal(rt: &impl Print, number: u8) {
+    console::print::number(rt, b"", number as u64);
 }
 
-fn count(octets: usize) {
-    io::print_decimal(1, octets as u64);
-    console::print::name(b" octets");
+fn count(rt: &impl Print, octets: usize) {
+    let _ = print!(rt; "{octets}");
+    console::print::name(rt, b" octets");
 }
 
-fn fits(answer: Fit) {
+fn fits(rt: &impl Print, answer: Fit) {
     match answer {
-        Fit::Octets(octets) => count(octets),
-        Fit::Unfit(number) => refusal(number),
+        Fit::Octets(octets) => count(rt, octets),
+        Fit::Unfit(number) => refusal(rt, number),
     }
 }
 
-fn written(answer: Primary) {
+fn written(rt: &impl Print, answer: Primary) {
     match answer {
-        Primary::PrimaryTaken(writer) => count(writer.at),
-        Primary::PrimaryRefused(number) => refusal(number),
+        Primary::PrimaryTaken(writer) => count(rt, writer.at),
+        Primary::PrimaryRefused(number) => refusal(rt, number),
     }
 }
 

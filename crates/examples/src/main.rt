@@ -8,17 +8,19 @@ mod line;
 mod texts;
 
 use console::input::{Input, Line};
+use std::io::Read;
 
 // No run has as many lines.
 const MOST_LINES: u64 = 10000;
 
-fn main() {
-    let mut block = io::large_buffer();
+fn main(rt: HostRuntime) {
+    let mut reader = rt.stdin();
+    let mut block = [0u8; 65536];
     let mut table = [0u16; 256];
     let mut input = Input { taken: 0, have: 0 };
     let mut left = MOST_LINES;
     while 0 < left {
-        let line = one(&mut block, input, &mut table);
+        let line = one(&rt, &mut reader, &mut block, input, &mut table);
         if !line.whole {
             return;
         }
@@ -28,26 +30,32 @@ fn main() {
 }
 
 // Reads a line and takes it; the table has the text that was taken last.
-fn one(block: &mut [u8; 65536], input: Input, table: &mut [u16; 256]) -> Line {
+fn one(
+    rt: &impl Print,
+    reader: &mut impl Read,
+    block: &mut [u8; 65536],
+    input: Input,
+    table: &mut [u16; 256],
+) -> Line {
     let mut room = [0u8; 400];
-    let line = console::input::read_line(block, &mut room, input);
+    let line = console::input::read_line(reader, block, &mut room, input);
     if line.whole {
-        take(line::front(&room, line.size), table);
+        take(rt, line::front(&room, line.size), table);
     }
     line
 }
 
-fn take(line: &[u8], table: &mut [u16; 256]) {
+fn take(rt: &impl Print, line: &[u8], table: &mut [u16; 256]) {
     match octets::octet(line, 0) {
-        b'n' => name(line::rest(line, 5)),
-        b't' => texts::text(line::rest(line, 5), table),
-        b'l' => texts::long(line, table),
-        _ => contents::take(line, table),
+        b'n' => name(rt, line::rest(line, 5)),
+        b't' => texts::text(rt, line::rest(line, 5), table),
+        b'l' => texts::long(rt, line, table),
+        _ => contents::take(rt, line, table),
     }
 }
 
 // `name=`: the name of a case.
-fn name(name: &[u8]) {
-    io::write_all(1, name);
-    io::write_all(1, b": ");
+fn name(rt: &impl Print, name: &[u8]) {
+    let _ = rt.write_all(name);
+    let _ = rt.write_all(b": ");
 }

@@ -5,15 +5,15 @@ use octets::text::LF;
 use provisioning::text::TextAnswer;
 
 // `text=`: a text.
-pub fn text(text: &[u8], table: &mut [u16; 256]) {
-    read(text, text.len(), table);
+pub fn text(rt: &impl Print, text: &[u8], table: &mut [u16; 256]) {
+    read(rt, text, text.len(), table);
 }
 
 // `long=`: three octets of size, and a text behind `:`; zeros fill it to that size.
-pub fn long(line: &[u8], table: &mut [u16; 256]) {
+pub fn long(rt: &impl Print, line: &[u8], table: &mut [u16; 256]) {
     let o = line::octets_of(line);
     let size = three(o[0], octets::double(o[1], o[2]));
-    read(line::rest(line, 12), size, table);
+    read(rt, line::rest(line, 12), size, table);
 }
 
 // A number of three octets.
@@ -21,20 +21,20 @@ fn three(high: u8, low: u16) -> usize {
     high as usize * 65536 + low as usize
 }
 
-fn read(text: &[u8], size: usize, table: &mut [u16; 256]) {
-    let mut room = io::large_buffer();
+fn read(rt: &impl Print, text: &[u8], size: usize, table: &mut [u16; 256]) {
+    let mut room = [0u8; 65536];
     octets::put_octets(&mut room, 0, text);
     put_lines(&mut room);
     let answer = provisioning::text::read_text(line::front(&room, size), table);
     match answer {
-        TextAnswer::Taken(blocks) => console::print::number(b"taken ", blocks as u64),
-        TextAnswer::Refused { number, line } => refused(number, line),
+        TextAnswer::Taken(blocks) => console::print::number(rt, b"taken ", blocks as u64),
+        TextAnswer::Refused { number, line } => refused(rt, number, line),
     }
 }
 
-fn refused(number: u8, line: usize) {
-    io::print_decimal(1, number as u64);
-    console::print::number(b" line ", line as u64);
+fn refused(rt: &impl Print, number: u8, line: usize) {
+    let _ = print!(rt; "{number}");
+    console::print::number(rt, b" line ", line as u64);
 }
 
 fn unslashed(character: u8) -> u8 {

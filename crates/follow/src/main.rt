@@ -8,6 +8,8 @@ ghost use Rattle.following.specs.Following.{most_followed};
 ghost use Rattle.streaming.specs.Pieces.{Within};
 
 use recording::stream::{Begun, MOST_KEPT};
+use std::env::{Env, FillError};
+use std::io::Read;
 use streaming::input::Piece;
 use trunk::Trunk;
 use value::Value;
@@ -31,6 +33,7 @@ enum Argument {
 
 // Follows a piece of the input, as much of it as the room for the output takes: some of it, since that has room for a line.
 fn follow_piece(
+    rt: &(impl Print + Eprint),
     input: &[u8],
     piece: Piece,
     begun: Begun,
@@ -61,12 +64,13 @@ fn follow_piece(
         have: told.have,
         number: told.number,
         trunk: after,
-        well: streaming::output::print(b"follow", out, told.used),
+        well: streaming::output::print(rt, b"follow", out, told.used),
     }
 }
 
 // Follows a last line that lacks its LF.
 fn finish(
+    rt: &(impl Print + Eprint),
     begun: Begun,
     kept: &[u8; MOST_KEPT],
     table: &[u16; 256],
@@ -75,11 +79,13 @@ fn finish(
     out: &mut [u8],
 ) {
     let used = following::stream::follow_last(begun, kept, table, cid, trunk, out);
-    streaming::output::print(b"follow", out, used);
+    streaming::output::print(rt, b"follow", out, used);
 }
 
 // Follows piece after piece, from the one behind the text to the end of the input, and a last line without LF.
 fn follow_all(
+    rt: &(impl Print + Eprint),
+    reader: &mut impl Read,
     input: &mut [u8],
     first: Piece,
     kept: &mut [u8; MOST_KEPT],
@@ -96,12 +102,12 @@ fn follow_all(
     let mut turns = u64::MAX;
     while 0 < turns {
         turns -= 1;
-        let piece = streaming::input::next(input, left);
+        let piece = streaming::input::next(reader, input, left);
         if piece.from == piece.to {
-            finish(begun, kept, table, cid, trunk, out);
+            finish(rt, begun, kept, table, cid, trunk, out);
             return;
         }
-        let stands = follow_piece(input, piece, begun, kept, table, cid, trunk, out);
+        let stands = follow_piece(rt, input, piece, begun, kept, table, cid, trunk, out);
         if !stands.well {
             return;
         }
@@ -119,26 +125,35 @@ fn follow_all(
 }
 
 // Follows a recording for a sub-channel.
-fn follow(cid: u8) {
-    let mut input = io::large_buffer();
+fn follow(rt: &(impl Print + Eprint), reader: &mut impl Read, cid: u8) {
+    let mut input = [0u8; 65536];
     let mut table = [0u16; 256];
-    let start = streaming::input::begin(b"follow", &mut input, &mut table);
+    let start = streaming::input::begin(rt, reader, b"follow", &mut input, &mut table);
     if start.taken {
         let mut kept = [0u8; MOST_KEPT];
-        let mut out = io::large_buffer();
+        let mut out = [0u8; 65536];
         let behind = start.behind;
-        follow_all(&mut input, behind, &mut kept, &table, cid, &mut out);
+        follow_all(
+            rt, reader, &mut input, behind, &mut kept, &table, cid, &mut out,
+        );
     }
 }
 
+// Whether the program has no argument at a place.
+fn is_last(rt: &impl Env, place: usize) -> bool {
+    matches!(rt.arg(place, &mut [0u8; 4]), Err(FillError::NotPresent))
+}
+
 // The one argument: a number as the provisioning text has it, at most 255. It is put before LFs, and its size must be that of the
-// number: 0 where it has more than four octets, and more where it has an LF itself.
-fn read_argument() -> Argument {
-    if os::arg_count() != 2 {
+// number: it has more than four octets where it does not fit, and its size is more where it has an LF itself.
+fn read_argument(rt: &impl Env) -> Argument {
+    if !is_last(rt, 2) {
         return Argument::NoCid;
     }
     let mut word = [10u8; 4];
-    let n = os::arg(1, &mut word);
+    let Ok(n) = rt.arg(1, &mut word) else {
+        return Argument::NoCid;
+    };
     match value::number_of(&word) {
         Value::Whole { value, size } => {
             if size == n + 1 {
@@ -152,15 +167,14 @@ fn read_argument() -> Argument {
     }
 }
 
-fn main() {
-    match read_argument() {
+fn main(rt: HostRuntime) {
+    match read_argument(&rt) {
         Argument::Cid(cid) => {
-            follow(cid);
+            follow(&rt, &mut rt.stdin(), cid);
         }
         Argument::NoCid => {
-            io::write_all(
-                libc::STDERR_FILENO,
-                b"use: follow CID, where CID is the number of a sub-channel, 0 to 255, and the recording is standard input\n",
+            let _ = eprintln!(rt;
+                "use: follow CID, where CID is the number of a sub-channel, 0 to 255, and the recording is standard input"
             );
         }
     }

@@ -7,6 +7,7 @@ ghost use Rattle.listing.specs.Listing.{most_listed};
 ghost use Rattle.streaming.specs.Pieces.{Within};
 
 use recording::stream::{Begun, MOST_KEPT};
+use std::io::Read;
 use streaming::input::Piece;
 
 // Where a piece is listed up to, how the next line stands, and whether printing went well.
@@ -20,6 +21,7 @@ struct Stands {
 
 // Lists a piece of the input, as much of it as the room for the output takes: some of it, since that has room for a line.
 fn list_piece(
+    rt: &(impl Print + Eprint),
     input: &[u8],
     piece: Piece,
     begun: Begun,
@@ -38,18 +40,26 @@ fn list_piece(
         at: from + listed.taken,
         have: listed.have,
         number: listed.number,
-        well: streaming::output::print(b"list", out, listed.used),
+        well: streaming::output::print(rt, b"list", out, listed.used),
     }
 }
 
 // Lists a last line that lacks its LF.
-fn finish(begun: Begun, kept: &[u8; MOST_KEPT], table: &[u16; 256], out: &mut [u8]) {
+fn finish(
+    rt: &(impl Print + Eprint),
+    begun: Begun,
+    kept: &[u8; MOST_KEPT],
+    table: &[u16; 256],
+    out: &mut [u8],
+) {
     let used = listing::stream::list_last(begun, kept, table, out);
-    streaming::output::print(b"list", out, used);
+    streaming::output::print(rt, b"list", out, used);
 }
 
 // Lists piece after piece, from the one behind the text to the end of the input, and a last line without LF.
 fn list_all(
+    rt: &(impl Print + Eprint),
+    reader: &mut impl Read,
     input: &mut [u8],
     first: Piece,
     kept: &mut [u8; MOST_KEPT],
@@ -64,12 +74,12 @@ fn list_all(
     let mut turns = u64::MAX;
     while 0 < turns {
         turns -= 1;
-        let piece = streaming::input::next(input, left);
+        let piece = streaming::input::next(reader, input, left);
         if piece.from == piece.to {
-            finish(begun, kept, table, out);
+            finish(rt, begun, kept, table, out);
             return;
         }
-        let stands = list_piece(input, piece, begun, kept, table, out);
+        let stands = list_piece(rt, input, piece, begun, kept, table, out);
         if !stands.well {
             return;
         }
@@ -84,14 +94,23 @@ fn list_all(
     }
 }
 
-fn main() {
-    let mut input = io::large_buffer();
+fn main(rt: HostRuntime) {
+    let mut reader = rt.stdin();
+    let mut input = [0u8; 65536];
     let mut table = [0u16; 256];
-    let start = streaming::input::begin(b"list", &mut input, &mut table);
+    let start = streaming::input::begin(&rt, &mut reader, b"list", &mut input, &mut table);
     if start.taken {
         let mut kept = [0u8; MOST_KEPT];
-        let mut out = io::large_buffer();
+        let mut out = [0u8; 65536];
         let behind = start.behind;
-        list_all(&mut input, behind, &mut kept, &table, &mut out);
+        list_all(
+            &rt,
+            &mut reader,
+            &mut input,
+            behind,
+            &mut kept,
+            &table,
+            &mut out,
+        );
     }
 }

@@ -14,39 +14,41 @@ mod list;
 mod reads;
 mod writes;
 
+use std::io::Read;
+
 const LISTS: u64 = 200;
 
 // With this one every coding type, m, fax command and modulation is drawn, and bench examples 13 and 14.
 const FIRST_SEED: u64 = 12;
 
-fn main() {
+fn main(rt: HostRuntime) {
     let mut table = [0u16; 256];
-    provision(&mut table);
+    provision(&rt, &mut rt.stdin(), &mut table);
     let mut seed = FIRST_SEED;
     let mut number: u64 = 0;
     while number < LISTS {
-        one(&table, list::list_of(number, seed));
+        one(&rt, &table, list::list_of(number, seed));
         seed = draws::far_seed(seed);
         number += 1;
     }
 }
 
 // Prints the text of the input and reads it into a table.
-fn provision(table: &mut [u16; 256]) {
-    let mut input = io::large_buffer();
-    let n = io::read_full(libc::STDIN_FILENO, &mut input);
-    io::write_all(1, &input[..n]);
+fn provision(rt: &impl Print, reader: &mut impl Read, table: &mut [u16; 256]) {
+    let mut input = [0u8; 65536];
+    let n = streaming::input::read_full(reader, &mut input);
+    let _ = rt.write_all(&input[..n]);
     provisioning::text::read_text(&input[..n], table);
 }
 
 // Writes one list into a lent frame, prints the frame, and reads it back.
-fn one(table: &[u16; 256], list: list::List) {
+fn one(rt: &impl Print, table: &[u16; 256], list: list::List) {
     let mut room = [0u8; 1600];
     let written = writes::write_list(&mut room, table, list);
     let frame = body::front(&room, written);
-    console::print::octets(b"frame=", frame);
+    console::print::octets(rt, b"frame=", frame);
     let differs = reads::first_differing(frame, table, list);
     if 0 < differs {
-        console::print::number(b"differs=", differs as u64);
+        console::print::number(rt, b"differs=", differs as u64);
     }
 }

@@ -14,12 +14,11 @@ use crate::items::Place;
 // What stands before the provisioning text: the row, how many times, and how long the text is.
 const FRONT: usize = 7;
 
-fn main() {
-    let mut input = io::large_buffer();
-    let n = io::read_full(libc::STDIN_FILENO, &mut input);
+fn main(rt: HostRuntime) {
+    let mut input = [0u8; 65536];
+    let n = streaming::input::read_full(&mut rt.stdin(), &mut input);
     let acc = work(&mut input[..n]);
-    io::print_decimal(libc::STDOUT_FILENO, acc);
-    io::write_all(libc::STDOUT_FILENO, b"\n");
+    let _ = println!(rt; "{acc}");
 }
 
 // The text is read into the table; the items stand behind it.

@@ -1,10 +1,11 @@
-// A recording from standard input: its text, then piece after piece.
-ghost use Rattle.std.specs.Prelude.{◌≡◌, true, length, take};
+// A recording from a reader, as standard input is: its text, then piece after piece. A read that fails ends the input.
+ghost use Rattle.std.specs.Prelude.{◌≡◌, ◌≤◌, true, length, take};
 ghost use Rattle.recording.specs.Pieces.{text_end};
 ghost use Rattle.provisioning.specs.Text.{reading, answer, table_after};
 ghost use Rattle.streaming.specs.Pieces.{Within, left, is_taken};
 
 use provisioning::text::TextAnswer;
+use std::io::Read;
 
 // A piece of the input: the octets of its room from a place up to another.
 #[derive(Clone, Copy)]
@@ -20,6 +21,28 @@ pub struct Start {
     pub behind: Piece,
 }
 
+// Reads once, and answers how many octets that put at the start of the room: none at the end of the input.
+fn read_some(reader: &mut impl Read, room: &mut [u8]) -> usize
+    ensures { result ≤ length room.new }
+{
+    reader.read(room).unwrap_or(0)
+}
+
+// Reads until the room is full or the input ends, and answers how many octets that put at its start.
+pub fn read_full(reader: &mut impl Read, room: &mut [u8]) -> usize
+    ensures { result ≤ length room.new }
+{
+    let mut done: usize = 0;
+    while done < room.len() {
+        let n = read_some(reader, &mut room[done..]);
+        if n == 0 {
+            return done;
+        }
+        done += n;
+    }
+    done
+}
+
 fn has_cr(text: &[u8]) -> bool {
     let mut i: usize = 0;
     while i < text.len() {
@@ -32,28 +55,35 @@ fn has_cr(text: &[u8]) -> bool {
 }
 
 // Prints the lines of a refused text, and says of one that has a CR that it has.
-fn refuse(program: &[u8], number: u8, line: usize, text: &[u8]) {
+fn refuse(rt: &(impl Print + Eprint), program: &[u8], number: u8, line: usize, text: &[u8]) {
     // Room for the names and 20 digits behind each.
     let mut room = [0u8; 52];
     let used = printing::refused::put_refused_text(&mut room, 0, number, line);
-    if crate::output::print(program, &room, used) {
+    if crate::output::print(rt, program, &room, used) {
         if has_cr(text) {
             crate::output::say(
+                rt,
                 program,
-                b": the text has CR, and a line ends with LF alone\n",
+                ": the text has CR, and a line ends with LF alone\n",
             );
         }
     }
 }
 
 // Reads the start of a recording, and its text into the table. A refused text is told: its lines are printed.
-pub fn begin(program: &[u8], input: &mut [u8], table: &mut [u16; 256]) -> Start
+pub fn begin(
+    rt: &(impl Print + Eprint),
+    reader: &mut impl Read,
+    program: &[u8],
+    input: &mut [u8],
+    table: &mut [u16; 256],
+) -> Start
     ensures within { Within result.behind (length input.new) }
     ensures ends { result.behind.from ≡ text_end (take result.behind.to input.new) }
     ensures says { result.taken ≡ is_taken (answer (reading (take result.behind.from input.new))) }
     ensures holds { table.new ≡ table_after (reading (take result.behind.from input.new)) table.old }
 {
-    let to = io::read_full(libc::STDIN_FILENO, input);
+    let to = read_full(reader, input);
     let from = recording::pieces::text_end(&input[..to]);
     match provisioning::text::read_text(&input[..from], table) {
         TextAnswer::Taken(_) => Start {
@@ -61,7 +91,7 @@ pub fn begin(program: &[u8], input: &mut [u8], table: &mut [u16; 256]) -> Start
             behind: Piece { from, to },
         },
         TextAnswer::Refused { number, line } => {
-            refuse(program, number, line, &input[..from]);
+            refuse(rt, program, number, line, &input[..from]);
             Start {
                 taken: false,
                 behind: Piece { from, to },
@@ -81,13 +111,13 @@ fn is_left(piece: Piece, room: usize) -> bool
 }
 
 // What is left of a piece, and the room as it was; where nothing is, the next piece, which is empty at the end of the input.
-pub fn next(input: &mut [u8], piece: Piece) -> Piece
+pub fn next(reader: &mut impl Read, input: &mut [u8], piece: Piece) -> Piece
     ensures within { Within result (length input.new) }
     ensures rest { left piece (length input.old) ≡ true → (result ≡ piece) × (input.new ≡ input.old) }
 {
     if is_left(piece, input.len()) {
         return piece;
     }
-    let to = io::count(libc::read(libc::STDIN_FILENO, input), input);
+    let to = read_some(reader, input);
     Piece { from: 0, to }
 }

@@ -28,48 +28,48 @@ pub fn start_state() -> Dialling {
 }
 
 // A window as it is printed: type, edge, code.
-fn window(name: &[u8], window: Window) {
+fn window(rt: &impl Print, name: &[u8], window: Window) {
     let kind: u8 = if window.on { 1 } else { 0 };
-    console::print::octets(name, &[kind, window.edge, window.code]);
+    console::print::octets(rt, name, &[kind, window.edge, window.code]);
 }
 
 // The carried periods.
-fn carried(count: u8, periods: [Window; 3]) {
-    console::print::number(b"carried=", count as u64);
+fn carried(rt: &impl Print, count: u8, periods: [Window; 3]) {
+    console::print::number(rt, b"carried=", count as u64);
     if 0 < count {
-        window(b"period=", periods[0]);
+        window(rt, b"period=", periods[0]);
     }
     if 1 < count {
-        window(b"period=", periods[1]);
+        window(rt, b"period=", periods[1]);
     }
     if 2 < count {
-        window(b"period=", periods[2]);
+        window(rt, b"period=", periods[2]);
     }
 }
 
 // What a receiver answers to a payload.
-fn show(received: Received) {
-    if crate::line::accepted(received.number, received.fills) {
+fn show(rt: &impl Print, received: Received) {
+    if crate::line::accepted(rt, received.number, received.fills) {
         let fill = received.fill;
-        window(b"with=", fill);
+        window(rt, b"with=", fill);
         let periods = received.periods;
-        carried(received.carried, periods);
+        carried(rt, received.carried, periods);
     }
 }
 
 // One receiver gets a payload.
-fn receive(number: u64, receiver: Receiver, payload: &[u8]) -> Receiver {
-    console::print::number(b"receiver=", number);
+fn receive(rt: &impl Print, number: u64, receiver: Receiver, payload: &[u8]) -> Receiver {
+    console::print::number(rt, b"receiver=", number);
     let received = dialled::receive(receiver, payload);
-    show(received);
+    show(rt, received);
     let after = received.receiver;
     after
 }
 
 // What a line of a kind does to one receiver that it names: `digits=`, a payload; `voice=`; `fresh=`.
-fn get(kind: Kind, number: u64, receiver: Receiver, payload: &[u8]) -> Receiver {
+fn get(rt: &impl Print, kind: Kind, number: u64, receiver: Receiver, payload: &[u8]) -> Receiver {
     match kind {
-        Kind::Digits => receive(number, receiver, payload),
+        Kind::Digits => receive(rt, number, receiver, payload),
         Kind::Voice => dialled::hear_voice(receiver),
         Kind::Fresh => dialled::fresh(),
         _ => receiver,
@@ -77,35 +77,35 @@ fn get(kind: Kind, number: u64, receiver: Receiver, payload: &[u8]) -> Receiver 
 }
 
 // What it does to those that *who* names: 1 the first, 2 the second, 3 both.
-fn hear(kind: Kind, who: u8, receivers: Receivers, payload: &[u8]) -> Receivers {
+fn hear(rt: &impl Print, kind: Kind, who: u8, receivers: Receivers, payload: &[u8]) -> Receivers {
     let mut first = receivers.first;
     let mut second = receivers.second;
     if who % 2 == 1 {
-        first = get(kind, 1, first, payload);
+        first = get(rt, kind, 1, first, payload);
     }
     if 1 < who {
-        second = get(kind, 2, second, payload);
+        second = get(rt, kind, 2, second, payload);
     }
     Receivers { first, second }
 }
 
 // Prints what becomes of an entry. What is sent comes to the receivers that *who* names.
-fn tell(answer: Sending, who: u8, receivers: Receivers) -> Receivers {
+fn tell(rt: &impl Print, answer: Sending, who: u8, receivers: Receivers) -> Receivers {
     match answer {
         Sending::BadEntry(number) => {
-            console::print::number(b"refused=", number as u64);
+            console::print::number(rt, b"refused=", number as u64);
             receivers
         }
         Sending::Unsent => {
-            console::print::name(b"unsent=");
+            console::print::name(rt, b"unsent=");
             receivers
         }
         Sending::Sent(sent) => {
             let mut payload = [0u8; 8];
             // It is written: crates/dialling/specs/SenderClaims.antt.
             digits::layout::put_digits(&mut payload, 0, sent);
-            console::print::octets(b"sent=", &payload);
-            hear(Kind::Digits, who, receivers, &payload)
+            console::print::octets(rt, b"sent=", &payload);
+            hear(rt, Kind::Digits, who, receivers, &payload)
         }
     }
 }
@@ -121,7 +121,7 @@ fn entry(octets: &[u8]) -> Entry {
 }
 
 // `digit=`: an entry is sent.
-fn digit(octets: &[u8], dialling: Dialling) -> Dialling {
+fn digit(rt: &impl Print, octets: &[u8], dialling: Dialling) -> Dialling {
     let sender = dialling.sender;
     let receivers = dialling.receivers;
     let taken = dialling::send(sender, entry(octets));
@@ -129,20 +129,21 @@ fn digit(octets: &[u8], dialling: Dialling) -> Dialling {
     let after = taken.sender;
     Dialling {
         sender: after,
-        receivers: tell(answer, octets::octet(octets, 0), receivers),
+        receivers: tell(rt, answer, octets::octet(octets, 0), receivers),
     }
 }
 
 // A line of a kind; one that is not about digits changes nothing.
-pub fn take(kind: Kind, octets: &[u8], dialling: Dialling) -> Dialling {
+pub fn take(rt: &impl Print, kind: Kind, octets: &[u8], dialling: Dialling) -> Dialling {
     match kind {
-        Kind::Digit => digit(octets, dialling),
+        Kind::Digit => digit(rt, octets, dialling),
         _ => {
             let sender = dialling.sender;
             let receivers = dialling.receivers;
             Dialling {
                 sender,
                 receivers: hear(
+                    rt,
                     kind,
                     octets::octet(octets, 0),
                     receivers,

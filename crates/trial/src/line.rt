@@ -1,5 +1,5 @@
 // The kinds of line, their keys and their octets (docs/TRIAL.md, "Input").
-ghost use Rattle.io.specs.Counts.{IsPrefixLen};
+ghost use Rattle.console.specs.Counts.{IsPrefixLen};
 
 #[derive(Clone, Copy)]
 pub enum Kind {
@@ -79,7 +79,7 @@ pub struct Stated {
 
 // The kind and the octets of a line that has such octets as its kind takes. Any other is malformed, that is answered, and it is of no
 // kind.
-pub fn known(number: u64, text: &[u8], room: &mut [u8]) -> Stated
+pub fn known(rt: &impl Print, number: u64, text: &[u8], room: &mut [u8]) -> Stated
     ensures { IsPrefixLen result.size room.new }
 {
     let kind = kind_of(text);
@@ -88,7 +88,7 @@ pub fn known(number: u64, text: &[u8], room: &mut [u8]) -> Stated
     if decoded.sound && fits(kind, &room[..size]) {
         return Stated { kind, size };
     }
-    console::lines::malformed(number);
+    console::lines::malformed(rt, number);
     Stated {
         kind: Kind::Unknown,
         size: 0,
@@ -105,11 +105,11 @@ pub fn behind<'a>(octets: &'a [u8], at: usize) -> &'a [u8] {
 }
 
 // Prints the refusal number of a payload, or how many periods are filled before it, and answers whether it is accepted.
-pub fn accepted(number: u8, fills: u8) -> bool {
+pub fn accepted(rt: &impl Print, number: u8, fills: u8) -> bool {
     if number != refusal::SOUND {
-        console::print::number(b"refused=", number as u64);
+        console::print::number(rt, b"refused=", number as u64);
         return false;
     }
-    console::print::number(b"filled=", fills as u64);
+    console::print::number(rt, b"filled=", fills as u64);
     true
 }

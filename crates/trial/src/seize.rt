@@ -29,84 +29,84 @@ pub fn start_state() -> Seizing {
 }
 
 // The carried periods, of ten samples each.
-fn carried(count: u8, periods: &[u8; 30]) {
-    console::print::number(b"carried=", count as u64);
+fn carried(rt: &impl Print, count: u8, periods: &[u8; 30]) {
+    console::print::number(rt, b"carried=", count as u64);
     if 0 < count {
-        console::print::part(b"period=", periods, 0, 10);
+        console::print::part(rt, b"period=", periods, 0, 10);
     }
     if 1 < count {
-        console::print::part(b"period=", periods, 10, 20);
+        console::print::part(rt, b"period=", periods, 10, 20);
     }
     if 2 < count {
-        console::print::part(b"period=", periods, 20, 30);
+        console::print::part(rt, b"period=", periods, 20, 30);
     }
 }
 
 // The value and the alarm of a receiver.
-fn current(value: u8, alarm: bool) {
-    console::print::number(b"value=", value as u64);
+fn current(rt: &impl Print, value: u8, alarm: bool) {
+    console::print::number(rt, b"value=", value as u64);
     let alarmed: u64 = if alarm { 1 } else { 0 };
-    console::print::number(b"alarm=", alarmed);
+    console::print::number(rt, b"alarm=", alarmed);
 }
 
 // What a receiver answers to a payload.
-fn show(received: Received) {
-    if crate::line::accepted(received.number, received.fills) {
-        console::print::octets(b"with=", &[received.fill]);
+fn show(rt: &impl Print, received: Received) {
+    if crate::line::accepted(rt, received.number, received.fills) {
+        console::print::octets(rt, b"with=", &[received.fill]);
         let periods = received.periods;
-        carried(received.carried, &periods);
+        carried(rt, received.carried, &periods);
         let after = received.receiver;
-        current(after.value, after.alarm);
+        current(rt, after.value, after.alarm);
     }
 }
 
 // One receiver gets a payload.
-fn receive(number: u64, receiver: Receiver, payload: &[u8]) -> Receiver {
-    console::print::number(b"receiver=", number);
+fn receive(rt: &impl Print, number: u64, receiver: Receiver, payload: &[u8]) -> Receiver {
+    console::print::number(rt, b"receiver=", number);
     let received = seized::receive(receiver, payload);
-    show(received);
+    show(rt, received);
     let after = received.receiver;
     after
 }
 
 // What a line of a kind does to one receiver that it names: `signalling=`, a payload; `fresh=`.
-fn get(kind: Kind, number: u64, receiver: Receiver, payload: &[u8]) -> Receiver {
+fn get(rt: &impl Print, kind: Kind, number: u64, receiver: Receiver, payload: &[u8]) -> Receiver {
     match kind {
-        Kind::Signalling => receive(number, receiver, payload),
+        Kind::Signalling => receive(rt, number, receiver, payload),
         Kind::Fresh => seized::fresh(),
         _ => receiver,
     }
 }
 
 // What it does to those that *who* names: 1 the first, 2 the second, 3 both.
-fn hear(kind: Kind, who: u8, receivers: Receivers, payload: &[u8]) -> Receivers {
+fn hear(rt: &impl Print, kind: Kind, who: u8, receivers: Receivers, payload: &[u8]) -> Receivers {
     let mut first = receivers.first;
     let mut second = receivers.second;
     if who % 2 == 1 {
-        first = get(kind, 1, first, payload);
+        first = get(rt, kind, 1, first, payload);
     }
     if 1 < who {
-        second = get(kind, 2, second, payload);
+        second = get(rt, kind, 2, second, payload);
     }
     Receivers { first, second }
 }
 
 // Prints what becomes of an entry. What is sent comes to the receivers that *who* names.
-fn tell(sent: Sent, who: u8, receivers: Receivers) -> Receivers {
+fn tell(rt: &impl Print, sent: Sent, who: u8, receivers: Receivers) -> Receivers {
     if sent.number != refusal::SOUND {
-        console::print::number(b"refused=", sent.number as u64);
+        console::print::number(rt, b"refused=", sent.number as u64);
         return receivers;
     }
     if !sent.due {
-        console::print::name(b"unsent=");
+        console::print::name(rt, b"unsent=");
         return receivers;
     }
     let content = sent.signalling;
     let mut payload = [0u8; 16];
     // What is sent has sixteen octets, and no sample out of range.
     signalling::layout::put_signalling(&mut payload, 0, content);
-    console::print::octets(b"sent=", &payload);
-    hear(Kind::Signalling, who, receivers, &payload)
+    console::print::octets(rt, b"sent=", &payload);
+    hear(rt, Kind::Signalling, who, receivers, &payload)
 }
 
 // The entry of a line: who, alarm, ten samples.
@@ -120,42 +120,43 @@ fn entry(octets: &[u8]) -> Entry {
 }
 
 // `samples=`: an entry is sent.
-fn samples(octets: &[u8], seizing: Seizing) -> Seizing {
+fn samples(rt: &impl Print, octets: &[u8], seizing: Seizing) -> Seizing {
     let sender = seizing.sender;
     let receivers = seizing.receivers;
     let sent = seizing::send(sender, entry(octets));
     let after = sent.sender;
     Seizing {
         sender: after,
-        receivers: tell(sent, octets::octet(octets, 0), receivers),
+        receivers: tell(rt, sent, octets::octet(octets, 0), receivers),
     }
 }
 
 // `start=`: the sender from a start value.
-fn start(octets: &[u8], sender: Sender) -> Sender {
+fn start(rt: &impl Print, octets: &[u8], sender: Sender) -> Sender {
     let started = seizing::start(octets::octet(octets, 0));
     if started.number != refusal::SOUND {
-        console::print::number(b"refused=", started.number as u64);
+        console::print::number(rt, b"refused=", started.number as u64);
         return sender;
     }
-    console::print::name(b"started=");
+    console::print::name(rt, b"started=");
     let anew = started.sender;
     anew
 }
 
 // A line of a kind; one that is not about seizure bits changes nothing.
-pub fn take(kind: Kind, octets: &[u8], seizing: Seizing) -> Seizing {
+pub fn take(rt: &impl Print, kind: Kind, octets: &[u8], seizing: Seizing) -> Seizing {
     let sender = seizing.sender;
     let receivers = seizing.receivers;
     match kind {
         Kind::Start => Seizing {
-            sender: start(octets, sender),
+            sender: start(rt, octets, sender),
             receivers,
         },
-        Kind::Samples => samples(octets, seizing),
+        Kind::Samples => samples(rt, octets, seizing),
         _ => Seizing {
             sender,
             receivers: hear(
+                rt,
                 kind,
                 octets::octet(octets, 0),
                 receivers,

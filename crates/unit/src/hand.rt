@@ -17,11 +17,17 @@ pub fn none() -> Held {
 }
 
 // `card=`: cid.
-fn card<'a>(frame: &'a [u8], silence: &'a [u8], table: &[u16; 256], octets: &[u8]) {
+fn card<'a>(
+    rt: &impl Print,
+    frame: &'a [u8],
+    silence: &'a [u8],
+    table: &[u16; 256],
+    octets: &[u8],
+) {
     let mut source: u8 = 0;
     let handed = card::handing::hand(frame, silence, table, octets::octet(octets, 0), &mut source);
-    console::print::number(b"source=", source as u64);
-    console::print::octets(b"octets=", handed);
+    console::print::number(rt, b"source=", source as u64);
+    console::print::octets(rt, b"octets=", handed);
 }
 
 // Keeps octets at the start of a room that has them.
@@ -32,6 +38,7 @@ fn keep(room: &mut [u8], octets: &[u8]) -> usize {
 
 // A line of a kind; one that is not about the card changes nothing.
 pub fn take(
+    rt: &impl Print,
     kind: Kind,
     octets: &[u8],
     table: &[u16; 256],
@@ -50,6 +57,7 @@ pub fn take(
         },
         Kind::Card => {
             card(
+                rt,
                 crate::line::front(frame, held.frame),
                 crate::line::front(silence, held.silence),
                 table,

@@ -1,5 +1,5 @@
 // The kinds of line, their keys and their octets (docs/UNIT.md, "Input").
-ghost use Rattle.io.specs.Counts.{IsPrefixLen};
+ghost use Rattle.console.specs.Counts.{IsPrefixLen};
 
 #[derive(Clone, Copy)]
 pub enum Content {
@@ -138,7 +138,7 @@ pub struct Stated {
 
 // The kind and the octets of a line that has such octets as its kind takes. Any other is malformed, that is answered, and it is of no
 // kind.
-pub fn known(number: u64, text: &[u8], room: &mut [u8]) -> Stated
+pub fn known(rt: &impl Print, number: u64, text: &[u8], room: &mut [u8]) -> Stated
     ensures { IsPrefixLen result.size room.new }
 {
     let kind = kind_of(text);
@@ -147,7 +147,7 @@ pub fn known(number: u64, text: &[u8], room: &mut [u8]) -> Stated
     if decoded.sound && fits(kind, &room[..size]) {
         return Stated { kind, size };
     }
-    console::lines::malformed(number);
+    console::lines::malformed(rt, number);
     Stated {
         kind: Kind::Unknown,
         size: 0,

@@ -10,6 +10,7 @@ mod write;
 use crate::hand::Held;
 use crate::write::Lent;
 use console::input::Input;
+use std::io::Read;
 
 // What the card can be handed, and what is written.
 #[derive(Clone, Copy)]
@@ -20,6 +21,7 @@ struct Stands {
 
 // A line without its LF; the octets of the longest have room.
 fn answer(
+    rt: &impl Print,
     number: u64,
     text: &[u8],
     table: &[u16; 256],
@@ -29,19 +31,26 @@ fn answer(
     stands: Stands,
 ) -> Stands {
     let mut room = [0u8; 2000];
-    let stated = crate::line::known(number, text, &mut room);
+    let stated = crate::line::known(rt, number, text, &mut room);
     let kind = stated.kind;
     let size = stated.size;
     let held = stands.held;
     let written = stands.lent;
     Stands {
-        held: crate::hand::take(kind, &room[..size], table, frame, silence, held),
-        lent: crate::write::take(kind, &room[..size], table, lent, written),
+        held: crate::hand::take(rt, kind, &room[..size], table, frame, silence, held),
+        lent: crate::write::take(rt, kind, &room[..size], table, lent, written),
     }
 }
 
 // All lines. No run uses the numbers up.
-fn run(block: &mut [u8], text: &mut [u8], begins: Input, table: &[u16; 256]) {
+fn run(
+    rt: &impl Print,
+    reader: &mut impl Read,
+    block: &mut [u8],
+    text: &mut [u8],
+    begins: Input,
+    table: &[u16; 256],
+) {
     let mut frame = [0u8; 1700];
     let mut silence = [0u8; 1700];
     let mut lent = [0xeeu8; 1700];
@@ -53,7 +62,7 @@ fn run(block: &mut [u8], text: &mut [u8], begins: Input, table: &[u16; 256]) {
     let mut number: u64 = 0;
     while number < u64::MAX {
         number += 1;
-        let line = console::lines::read(block, text, input);
+        let line = console::lines::read(reader, block, text, input);
         if line.ended {
             return;
         }
@@ -61,6 +70,7 @@ fn run(block: &mut [u8], text: &mut [u8], begins: Input, table: &[u16; 256]) {
         input = after;
         let size = line.size;
         stands = answer(
+            rt,
             number,
             &text[0..size],
             table,
@@ -73,10 +83,11 @@ fn run(block: &mut [u8], text: &mut [u8], begins: Input, table: &[u16; 256]) {
 }
 
 // A line has up to 4,000 characters.
-fn main() {
-    let mut block = io::large_buffer();
+fn main(rt: HostRuntime) {
+    let mut reader = rt.stdin();
+    let mut block = [0u8; 65536];
     let mut table = [0u16; 256];
-    let start = streaming::input::begin(b"unit", &mut block, &mut table);
+    let start = streaming::input::begin(&rt, &mut reader, b"unit", &mut block, &mut table);
     if start.taken {
         let behind = start.behind;
         let input = Input {
@@ -84,6 +95,6 @@ fn main() {
             have: behind.to,
         };
         let mut text = [0u8; 4000];
-        run(&mut block, &mut text, input, &table);
+        run(&rt, &mut reader, &mut block, &mut text, input, &table);
     }
 }

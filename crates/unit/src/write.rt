@@ -30,34 +30,35 @@ fn cleared(lent: &mut [u8]) {
 }
 
 // Prints the writer after a sub-frame.
-fn taken(next: Writer) -> Writer {
-    console::print::number(b"at=", next.at as u64);
-    console::print::number(b"count=", next.count as u64);
-    console::print::number(b"done=", next.done as u64);
+fn taken(rt: &impl Print, next: Writer) -> Writer {
+    console::print::number(rt, b"at=", next.at as u64);
+    console::print::number(rt, b"count=", next.count as u64);
+    console::print::number(rt, b"done=", next.done as u64);
     next
 }
 
-fn refused(number: u8, writer: Writer) -> Writer {
-    console::print::number(b"refused=", number as u64);
+fn refused(rt: &impl Print, number: u8, writer: Writer) -> Writer {
+    console::print::number(rt, b"refused=", number as u64);
     writer
 }
 
-fn primary(answer: Primary, writer: Writer) -> Writer {
+fn primary(rt: &impl Print, answer: Primary, writer: Writer) -> Writer {
     match answer {
-        Primary::PrimaryTaken(next) => taken(next),
-        Primary::PrimaryRefused(number) => refused(number, writer),
+        Primary::PrimaryTaken(next) => taken(rt, next),
+        Primary::PrimaryRefused(number) => refused(rt, number, writer),
     }
 }
 
-fn signalled(answer: Signalled, writer: Writer) -> Writer {
+fn signalled(rt: &impl Print, answer: Signalled, writer: Writer) -> Writer {
     match answer {
-        Signalled::SignalledTaken(next) => taken(next),
-        Signalled::SignalledRefused(number) => refused(number, writer),
+        Signalled::SignalledTaken(next) => taken(rt, next),
+        Signalled::SignalledRefused(number) => refused(rt, number, writer),
     }
 }
 
 // Writes the content of a line: last and cid stand first in every line.
 fn write(
+    rt: &impl Print,
     content: Content,
     frame: &mut [u8],
     writer: Writer,
@@ -67,10 +68,11 @@ fn write(
     let last = crate::contents::set(octets, 0);
     let cid = octets::octet(octets, 1);
     match content {
-        Content::Voice => write_voice(frame, writer, last, table, cid, octets),
+        Content::Voice => write_voice(rt, frame, writer, last, table, cid, octets),
         Content::Digits => {
             let digits = crate::contents::digits(octets);
             signalled(
+                rt,
                 writer::signalled::write_digits(frame, writer, last, table, cid, digits),
                 writer,
             )
@@ -78,23 +80,26 @@ fn write(
         Content::Signalling => {
             let signalling = crate::contents::signalling(octets);
             signalled(
+                rt,
                 writer::signalled::write_signalling(frame, writer, last, table, cid, signalling),
                 writer,
             )
         }
-        Content::Fax => write_fax(frame, writer, last, table, cid, octets),
+        Content::Fax => write_fax(rt, frame, writer, last, table, cid, octets),
         Content::Sid => {
             let sid = crate::contents::sid(octets);
             signalled(
+                rt,
                 writer::signalled::write_sid(frame, writer, last, table, cid, sid),
                 writer,
             )
         }
-        Content::Data => write_data(frame, writer, last, table, cid, octets),
+        Content::Data => write_data(rt, frame, writer, last, table, cid, octets),
     }
 }
 
 fn write_voice(
+    rt: &impl Print,
     frame: &mut [u8],
     writer: Writer,
     last: bool,
@@ -112,10 +117,11 @@ fn write_voice(
         octets::octet(octets, 3),
         crate::contents::body(octets, 4),
     );
-    primary(answer, writer)
+    primary(rt, answer, writer)
 }
 
 fn write_fax(
+    rt: &impl Print,
     frame: &mut [u8],
     writer: Writer,
     last: bool,
@@ -134,10 +140,11 @@ fn write_fax(
         crate::contents::command(octets),
         crate::contents::body(octets, 11),
     );
-    signalled(answer, writer)
+    signalled(rt, answer, writer)
 }
 
 fn write_data(
+    rt: &impl Print,
     frame: &mut [u8],
     writer: Writer,
     last: bool,
@@ -156,11 +163,18 @@ fn write_data(
         DataCount(crate::line::pair(octets, 4)),
         crate::contents::body(octets, 6),
     );
-    primary(answer, writer)
+    primary(rt, answer, writer)
 }
 
 // A line of a kind; one that is not about the lent frame changes nothing.
-pub fn take(kind: Kind, octets: &[u8], table: &[u16; 256], lent: &mut [u8], stands: Lent) -> Lent {
+pub fn take(
+    rt: &impl Print,
+    kind: Kind,
+    octets: &[u8],
+    table: &[u16; 256],
+    lent: &mut [u8],
+    stands: Lent,
+) -> Lent {
     match kind {
         Kind::Room => {
             cleared(lent);
@@ -170,7 +184,7 @@ pub fn take(kind: Kind, octets: &[u8], table: &[u16; 256], lent: &mut [u8], stan
             }
         }
         Kind::Shown => {
-            console::print::octets(b"lent=", crate::line::front(lent, stands.room));
+            console::print::octets(rt, b"lent=", crate::line::front(lent, stands.room));
             stands
         }
         Kind::Written(content) => {
@@ -178,7 +192,7 @@ pub fn take(kind: Kind, octets: &[u8], table: &[u16; 256], lent: &mut [u8], stan
             let writer = stands.writer;
             Lent {
                 room,
-                writer: write(content, &mut lent[0..room], writer, table, octets),
+                writer: write(rt, content, &mut lent[0..room], writer, table, octets),
             }
         }
         _ => stands,
