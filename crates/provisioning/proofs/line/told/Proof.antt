@@ -1,0 +1,45 @@
+-- `provisioning::line::told` meets its contract.
+use borrow.Author.Rules.{rules}
+use Rattle.provisioning.proofs.line.told.Statement.{statement}
+use Rattle.provisioning.proofs.line.told.Tie as tie
+
+enum_told : tie.Need-enum-told
+enum_told c = search rules
+
+enum-told-2 : tie.Need-enum-told-2
+enum-told-2 c = search rules
+
+syntax-at-requires : tie.Need-syntax-at-requires
+syntax-at-requires c κs = search rules
+
+enum-told-3 : tie.Need-enum-told-3
+enum-told-3 c = search rules
+
+enum-told-4 : tie.Need-enum-told-4
+enum-told-4 c = search rules
+
+returns : tie.Need-returns
+returns c = rw c.enum_told.given.1
+
+returns-2 : tie.Need-returns-2
+returns-2 c = rw (c.before.enum-told2.given.1, c.syntax-at.ensures)
+
+returns-3 : tie.Need-returns-3
+returns-3 c = rw c.enum-told3.given.1
+
+returns-4 : tie.Need-returns-4
+returns-4 c = rw c.enum-told4.given.1
+
+pub told-spec : {M : Type 1} → statement M
+told-spec =
+    tie.close
+    (tie.spec
+    enum_told
+    enum-told-2
+    syntax-at-requires
+    enum-told-3
+    enum-told-4
+    returns
+    returns-2
+    returns-3
+    returns-4)
