@@ -1,4 +1,4 @@
-/* What the cabinet's host program links: libcabinet.a, written by `rt staticlib cabinet`. */
+/* What the cabinet's host program links: libcabinet.a, written by host/build. */
 #ifndef CENDRAVIU_H
 #define CENDRAVIU_H
 

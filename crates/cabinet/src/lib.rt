@@ -1,5 +1,5 @@
-// What the cabinet's host program, in C, links (document 01: "hands the frame check a frame, getting a number back, 0 if
-// sound"). host/cendraviu.h declares it.
+// What the cabinet's host program, in C, calls (document 01: "hands the frame check a frame, getting a number back, 0 if
+// sound"). host/cendraviu.h declares it; the static library `cabinet_c` exports it, since a library exports nothing to C.
 #![tactic(auto)]
 
 ghost use Rattle.std.specs.Prelude.{◌≡◌};

@@ -25,7 +25,7 @@ two c = ne_eqb _ 0 (λ z. c.if-due-eq0.false (c.sid_octets-due.ensures ∙ z))
 
 out : (c : After-out_of_range) → c.out_of_range.result ≡ out_of_range (code_of 63 c.in-Noise.level)
 out c =
-    let fits : SFits w8 c.in-Noise.level = record { sfits = c.known_told-1.given.1.0.1 } in
+    let fits : SFits w8 c.in-Noise.level = record { sfits = c.in-Noise.known_told-1-own.given.1.0.1 } in
     rw (to_z-of_z w8 c.in-Noise.level fits) at c.out_of_range.ensures
 
 pub returns-then-coding_count-eq0 : goal.returns-then-coding_count-eq0

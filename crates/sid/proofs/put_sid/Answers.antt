@@ -44,7 +44,7 @@ overflow_mul-pair c = ?
 
 pub returns-in-Noise-clause-answer : goal.returns-in-Noise-clause-answer
 returns-in-Noise-clause-answer c = let both = let s = c.before in
-    let fits : SFits w8 c.in-Noise.level = record { sfits = c.known_told-in-Octets-1.given.1.0.1 } in
+    let fits : SFits w8 c.in-Noise.level = record { sfits = c.in-Noise.known_told-in-Octets-1-own.given.1.0.1 } in
     let code : c.magnitude.result ≡ magnitude_in (code_of 63 c.in-Noise.level) = rw (to_z-of_z w8 c.in-Noise.level fits) at c.magnitude.ensures in
     writing.written-made s.args.room.now s.args.at (content (goal.at.returns-in-Noise-clause-answer c).Start) _ _ _
     (made_so (goal.at.returns-in-Noise-clause-answer c).In-Octets ∙ ap (λ (x : Sid). made (octets_for x)) c.in-Noise.is)
@@ -53,7 +53,7 @@ returns-in-Noise-clause-answer c = let both = let s = c.before in
 
 pub returns-in-Noise-clause-holds : goal.returns-in-Noise-clause-holds
 returns-in-Noise-clause-holds c = let both = let s = c.before in
-    let fits : SFits w8 c.in-Noise.level = record { sfits = c.known_told-in-Octets-1.given.1.0.1 } in
+    let fits : SFits w8 c.in-Noise.level = record { sfits = c.in-Noise.known_told-in-Octets-1-own.given.1.0.1 } in
     let code : c.magnitude.result ≡ magnitude_in (code_of 63 c.in-Noise.level) = rw (to_z-of_z w8 c.in-Noise.level fits) at c.magnitude.ensures in
     writing.written-made s.args.room.now s.args.at (content (goal.at.returns-in-Noise-clause-holds c).Start) _ _ _
     (made_so (goal.at.returns-in-Noise-clause-holds c).In-Octets ∙ ap (λ (x : Sid). made (octets_for x)) c.in-Noise.is)

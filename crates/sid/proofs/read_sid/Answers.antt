@@ -43,7 +43,7 @@ returns-then-due-eq0 c = let a = c.args in
 pub returns : goal.returns
 returns c = let a = c.args in
     let some : eqb (sid_octets a.syntax) 0 ≡ false = ne_eqb (sid_octets a.syntax) 0 (λ z. c.if-due-eq0.false (c.sid_octets-due.ensures ∙ z)) in
-    rw (to_z-of_z w8 c.level_of.result (record { sfits = c.level_of.type-inv }))
+    rw (to_z-of_z w8 c.level_of.result (record { sfits = c.level_of.type_inv }))
     (ap₂ (λ (x : ℕ) (z : ℤ). Silence (Noise (record { 0 = x / 16 }) z)) c.octet.ensures
     (c.level_of.ensures ∙ ap (λ (x : ℕ). level_of x) c.octet-2.ensures)
     ∙ sym (cases.reads a.syntax a.payload.now (voice (goal.at.returns c).Else-coding_count-eq0, (whole (goal.at.returns c).Else-payload-due, tt)) ∙ rw some))
