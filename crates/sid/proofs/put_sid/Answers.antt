@@ -14,7 +14,7 @@ use Rattle.sid.specs.Sid.{magnitude_in, octets_for, sid_made}
 use Rattle.sid.proofs.SidCases as cases
 use borrow.Author.Rules.{rules}
 use Rattle.sid.proofs.put_sid.Goals as goal
-use Rattle.sid.proofs.put_sid.Goals.{In-Noise, In-Octets, Start}
+use Rattle.sid.proofs.put_sid.Goals.{In-Octets, Start}
 
 abbrev content : Start → Made
 content s = sid_made s.args.syntax s.args.sid
@@ -29,18 +29,9 @@ made_so c =
     let m = writing.octets-made (content-at-In-Octets c) _ (sym c.fit_sid.ensures ∙ c.in-Octets.is) in
     m.1 ∙ ap made (sym (cases.made-passed s.args.syntax s.args.sid m.0 m.1).1)
 
-abbrev content-at-In-Noise : In-Noise → Made
-content-at-In-Noise s = sid_made s.args.syntax s.args.sid
-
--- what fits is made of its octets
-made_so-at-In-Noise : (c : In-Noise) → let s = c.before in content-at-In-Noise c ≡ made (octets_for s.args.sid)
-made_so-at-In-Noise c =
-    let s = c.before in
-    let m = writing.octets-made (content-at-In-Noise c) _ (sym c.fit_sid.ensures ∙ c.in-Octets.is) in
-    m.1 ∙ ap made (sym (cases.made-passed s.args.syntax s.args.sid m.0 m.1).1)
-
 pub overflow_mul-pair : goal.overflow_mul-pair
-overflow_mul-pair c = ?
+overflow_mul-pair c =
+    omega (arith, cases.four_bits c.args.syntax c.in-Noise.sequence c.in-Noise.level _ (ap (sid_made c.args.syntax) (sym c.in-Noise.is) ∙ made_so (goal.at.overflow_mul-pair c).In-Octets))
 
 pub returns-in-Noise-clause-answer : goal.returns-in-Noise-clause-answer
 returns-in-Noise-clause-answer c = let both = let s = c.before in
