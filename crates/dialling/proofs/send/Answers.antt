@@ -2,6 +2,7 @@
 use mathlib.Core.Path.{◌≡◌, sym, ap, ◌∙◌}
 use mathlib.Core.Bool.{false}
 use mir.Syntax.{w8}
+use mir.Val.{SFits}
 use mir.ValLaws.{to_z-of_z}
 use Rattle.levels.specs.Level.{code_of}
 use Rattle.digits.specs.Layout.{window_wrong, level_low}
@@ -27,21 +28,16 @@ level c =
     rw (to_z-of_z w8 c.args.entry.level (record { sfits = c.type_inv.entry.1.1.1.0.1 })) at
     c.level_low.ensures
 
-level-at-Else-level_low : (c : Else-level_low) → c.level_low.result ≡ level_low (code_of 31 c.args.entry.level)
-level-at-Else-level_low c =
-    rw (to_z-of_z w8 c.args.entry.level (record { sfits = c.type_inv.entry.1.1.1.0.1 })) at
-    c.level_low.ensures
-
 fair : (c : Else-level_low) → level_low (code_of 31 c.args.entry.level) ≡ false
-fair c = sym (level-at-Else-level_low c) ∙ c.if-level_low.false
+fair c =
+    sym (rw (to_z-of_z w8 c.args.entry.level (record { sfits = c.type_inv.entry.1.1.1.0.1 })) at c.level_low.ensures)
+    ∙ c.if-level_low.false
 
 stray : (c : After-stray_edge) → c.stray_edge.result ≡ stray_edge c.args.sender (window_in c.args.entry)
 stray c = rw c.window_in-window.ensures at c.stray_edge.ensures
 
-answered : (c : After-period) → c.period.result ≡ period c.args.sender (window_in c.args.entry) c.args.entry.level
-answered c =
-    rw (to_z-of_z w8 c.args.entry.level (record { sfits = c.type_inv.entry.1.1.1.0.1 }), c.window_in-window.ensures) at
-    c.period.ensures
+answered : (c : After-period) → SFits w8 c.args.entry.level → c.period.result ≡ period c.args.sender (window_in c.args.entry) c.args.entry.level
+answered c fits = rw (to_z-of_z w8 c.args.entry.level fits, c.window_in-window.ensures) at c.period.ensures
 
 pub returns-then-window_wrong : goal.returns-then-window_wrong
 returns-then-window_wrong c = c.refused.ensures ∙ sym (cases.wrong _ _ (sym (window (goal.at.returns-then-window_wrong c).After-window_wrong) ∙ c.if-window_wrong.true))
@@ -53,4 +49,6 @@ pub returns-then-stray_edge : goal.returns-then-stray_edge
 returns-then-stray_edge c = c.refused-then-stray_edge.ensures ∙ sym (cases.stray _ _ (right (goal.at.returns-then-stray_edge c).Else-window_wrong) (fair (goal.at.returns-then-stray_edge c).Else-level_low) (sym (stray (goal.at.returns-then-stray_edge c).After-stray_edge) ∙ c.if-stray_edge.true))
 
 pub returns : goal.returns
-returns c = answered (goal.at.returns c).After-period ∙ sym (cases.in_place _ _ (right (goal.at.returns c).Else-window_wrong) (fair (goal.at.returns c).Else-level_low) (sym (stray (goal.at.returns c).After-stray_edge) ∙ c.if-stray_edge.false))
+returns c =
+    let fits : SFits w8 c.args.entry.level = record { sfits = (goal.at.returns c).Else-level_low.type_inv.entry.1.1.1.0.1 } in
+    answered (goal.at.returns c).After-period fits ∙ sym (cases.in_place _ _ (right (goal.at.returns c).Else-window_wrong) (fair (goal.at.returns c).Else-level_low) (sym (stray (goal.at.returns c).After-stray_edge) ∙ c.if-stray_edge.false))
