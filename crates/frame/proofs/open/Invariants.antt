@@ -1,0 +1,17 @@
+-- `frame::open` meets its contract: the headers that were checked tell the sub-frames, one a turn.
+use Prim.Native.Nat.{◌-◌, ◌<◌}
+use borrow.Author.Rules.{rules}
+use native.Mathlib.Omega.{arith}
+use mathlib.Core.Path.{sym, ap, ◌∙◌}
+use lib.ListN.{length}
+use Rattle.header.specs.declared.Header.TheVariants.{Sub}
+use Rattle.frame.specs.Opening.{opening}
+use Rattle.header.proofs.HeaderInverse as inverse
+use Rattle.frame.proofs.OpeningList as list
+use Rattle.frame.proofs.open.Given as goal
+
+abbrev pub invariant-loop-i : goal.invariant-loop-i
+invariant-loop-i l = list.Listed l.frame l.subs l.at l.i
+
+abbrev pub decreases-loop-i : goal.decreases-loop-i
+decreases-loop-i l = l.count - l.i
