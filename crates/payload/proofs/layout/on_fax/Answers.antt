@@ -1,4 +1,5 @@
 -- `payload::layout::on_fax` meets its contract.
+use native.Mathlib.Omega.{arith}
 use mathlib.Core.Path.{sym, ap}
 use Rattle.payload.specs.Layout.{on_fax}
 use Rattle.payload.proofs.LayoutCases as cases
@@ -18,8 +19,8 @@ returns-in-2 c = sym (ap on_fax c.in-2.is)
 
 pub returns-in-3-to-15 : goal.returns-in-3-to-15
 returns-in-3-to-15 c = let a = c.args in
-    sym (cases.no-fax a.ptype c.in-0.rest.0.0.1 c.in-0.rest.0.1 c.in-0.rest.1)
+    sym (cases.no-fax a.ptype (λ z. omega (arith, z)) (λ z. omega (arith, z)) (λ z. omega (arith, z)))
 
 pub returns-in_default : goal.returns-in_default
 returns-in_default c = let a = c.args in
-    sym (cases.no-fax a.ptype c.in-0.rest.0.0.1 c.in-0.rest.0.1 c.in-0.rest.1)
+    sym (cases.no-fax a.ptype (λ z. omega (arith, z)) (λ z. omega (arith, z)) (λ z. omega (arith, z)))

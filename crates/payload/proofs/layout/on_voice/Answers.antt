@@ -1,4 +1,5 @@
 -- `payload::layout::on_voice` meets its contract.
+use native.Mathlib.Omega.{arith}
 use mathlib.Core.Path.{sym, ap}
 use Rattle.payload.specs.Layout.{on_voice}
 use Rattle.payload.proofs.LayoutCases as cases
@@ -26,8 +27,8 @@ returns-in-4 c = sym (ap (on_voice c.args.rec) c.in-4.is)
 
 pub returns-in-5-to-15 : goal.returns-in-5-to-15
 returns-in-5-to-15 c = let a = c.args in
-    sym (cases.no-voice a.ptype c.in-0.rest.0.0.0.0.1 c.in-0.rest.0.0.0.1 c.in-0.rest.0.0.1 a.rec c.in-0.rest.0.1 c.in-0.rest.1)
+    sym (cases.no-voice a.ptype (λ z. omega (arith, z)) (λ z. omega (arith, z)) (λ z. omega (arith, z)) a.rec (λ z. omega (arith, z)) (λ z. omega (arith, z)))
 
 pub returns-in_default : goal.returns-in_default
 returns-in_default c = let a = c.args in
-    sym (cases.no-voice a.ptype c.in-0.rest.0.0.0.0.1 c.in-0.rest.0.0.0.1 c.in-0.rest.0.0.1 a.rec c.in-0.rest.0.1 c.in-0.rest.1)
+    sym (cases.no-voice a.ptype (λ z. omega (arith, z)) (λ z. omega (arith, z)) (λ z. omega (arith, z)) a.rec (λ z. omega (arith, z)) (λ z. omega (arith, z)))
