@@ -48,11 +48,11 @@ first-numbers = chosen-numbers (1 ∷ 128 ∷ 0 ∷ 255 ∷ 256 ∷ 255 ∷ [])
 second-numbers : map number_of second ≡ 0 ∷ 1 ∷ 128 ∷ 0 ∷ 255 ∷ 127 ∷ 255 ∷ 256 ∷ 254 ∷ 299 ∷ []
 second-numbers = chosen-numbers (0 ∷ 1 ∷ 128 ∷ 0 ∷ 255 ∷ 127 ∷ 255 ∷ 256 ∷ 254 ∷ 299 ∷ [])
 
-second_in_order : map number_of second_in_order ≡ 0 ∷ 1 ∷ 128 ∷ 255 ∷ 299 ∷ []
-second_in_order = picked-map number_of (0 ∷ 0 ∷ 126 ∷ 126 ∷ 43 ∷ []) sent ∙ ap (picked (0 ∷ 0 ∷ 126 ∷ 126 ∷ 43 ∷ [])) numbers
+second_in_order_is : map number_of second_in_order ≡ 0 ∷ 1 ∷ 128 ∷ 255 ∷ 299 ∷ []
+second_in_order_is = picked-map number_of (0 ∷ 0 ∷ 126 ∷ 126 ∷ 43 ∷ []) sent ∙ ap (picked (0 ∷ 0 ∷ 126 ∷ 126 ∷ 43 ∷ [])) numbers
 
-first_in_order : map number_of first_in_order ≡ 1 ∷ 128 ∷ 255 ∷ []
-first_in_order = picked-map number_of (1 ∷ 0 ∷ 0 ∷ []) second_in_order ∙ ap (picked (1 ∷ 0 ∷ 0 ∷ [])) second_in_order
+first_in_order_is : map number_of first_in_order ≡ 1 ∷ 128 ∷ 255 ∷ []
+first_in_order_is = picked-map number_of (1 ∷ 0 ∷ 0 ∷ []) second_in_order ∙ ap (picked (1 ∷ 0 ∷ 0 ∷ [])) second_in_order_is
 
 -- the arrivals amid the voice
 amid-is : (ps : List Emission) (ns : List ℕ) → map number_of ps ≡ ns → arrivals (amid ps) ≡ ns
@@ -65,8 +65,8 @@ pub runs : Runs
 runs =
     let first_is = amid-is first (1 ∷ 128 ∷ 0 ∷ 255 ∷ 256 ∷ 255 ∷ []) first-numbers in
     let second_is = amid-is second (0 ∷ 1 ∷ 128 ∷ 0 ∷ 255 ∷ 127 ∷ 255 ∷ 256 ∷ 254 ∷ 299 ∷ []) second-numbers in
-    let first-ordered = amid-is first_in_order (1 ∷ 128 ∷ 255 ∷ []) first_in_order in
-    let second-ordered = amid-is second_in_order (0 ∷ 1 ∷ 128 ∷ 255 ∷ 299 ∷ []) second_in_order in
+    let first-ordered = amid-is first_in_order (1 ∷ 128 ∷ 255 ∷ []) first_in_order_is in
+    let second-ordered = amid-is second_in_order (0 ∷ 1 ∷ 128 ∷ 255 ∷ 299 ∷ []) second_in_order_is in
     record {
       given =
           record {
@@ -97,8 +97,8 @@ runs =
             near = subst (Near farthest) (sym first-ordered) (omega arith, (omega arith, tt));
             near2 = subst (Near farthest) (sym second-ordered) (omega arith, (omega arith, (omega arith, (omega arith, tt))));
           };
-      first_in_order = first-ordered;
-      second_in_order = second-ordered;
+      first_in_order_is = first-ordered;
+      second_in_order_is = second-ordered;
     }
 
 payloads-of : (ps : List Emission) → payloads_of (map came ps) ≡ ps

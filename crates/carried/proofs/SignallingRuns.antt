@@ -189,8 +189,8 @@ runs =
             near = subst (Near farthest) (sym first-ordered) (omega arith, tt);
             near2 = subst (Near farthest) (sym second-ordered) (omega arith, (omega arith, (omega arith, tt)));
           };
-      first_in_order = first-ordered;
-      second_in_order = second-ordered;
+      first_in_order_is = first-ordered;
+      second_in_order_is = second-ordered;
     }
 
 -- two payloads of the sender, with these numbers

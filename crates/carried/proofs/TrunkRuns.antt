@@ -26,13 +26,13 @@ use Rattle.carried.specs.TrunkRuns.{acelp, amid_digits, amid_signalling, reading
 use Rattle.carried.proofs.DigitRuns as digit-proofs
 use Rattle.carried.proofs.SignallingRuns as signalling-proofs
 
-amid_digits : map reading_of amid_digits ≡ other_readings ++ signalling_reading ∷ refused length_wrong ∷ []
+amid_digits_is : map reading_of amid_digits ≡ other_readings ++ signalling_reading ∷ refused length_wrong ∷ []
 unfolding voice_read body_octets block_octets voice.front_of sid_read fax_read is_page body_sized tone_refused fax.front_of command_of digits_read signalling_read all_allowed pairs halves on_voice
-amid_digits = refl
+amid_digits_is = refl
 
-amid_signalling : map reading_of amid_signalling ≡ other_readings ++ digits_reading ∷ refused length_wrong ∷ []
+amid_signalling_is : map reading_of amid_signalling ≡ other_readings ++ digits_reading ∷ refused length_wrong ∷ []
 unfolding voice_read body_octets block_octets voice.front_of sid_read fax_read is_page body_sized tone_refused fax.front_of command_of digits_read signalling_read all_allowed pairs halves on_voice
-amid_signalling = refl
+amid_signalling_is = refl
 
 -- what a content is not
 abbrev is_dialled : Reading → Bool
@@ -96,8 +96,8 @@ runs =
     let heard-second : digits.payloads_of (digit-runs.amid digit-runs.second) ≡ payloads_of (each amid_digits digit-runs.second) = digit-proofs.payloads-amid digit-runs.second ∙ sym (of-digits digit-runs.second) in
     let given2 = (signalling-proofs.runs).given in
     record {
-      amid_digits = amid_digits;
-      amid_signalling = amid_signalling;
+      amid_digits_is = amid_digits_is;
+      amid_signalling_is = amid_signalling_is;
       digits =
           record {
             carries = refl;

@@ -53,8 +53,8 @@ pub record Runs : Type 0 where
   pub first_is : arrivals (amid first) ≡ 1 ∷ 128 ∷ 0 ∷ 255 ∷ 256 ∷ 255 ∷ []
   pub second_is : arrivals (amid second) ≡ 0 ∷ 1 ∷ 128 ∷ 0 ∷ 255 ∷ 127 ∷ 255 ∷ 256 ∷ 254 ∷ 299 ∷ []
   pub in_order : InOrder call (amid first_in_order) (amid second_in_order)
-  pub first_in_order : arrivals (amid first_in_order) ≡ 1 ∷ 128 ∷ 255 ∷ []
-  pub second_in_order : arrivals (amid second_in_order) ≡ 0 ∷ 1 ∷ 128 ∷ 255 ∷ 299 ∷ []
+  pub first_in_order_is : arrivals (amid first_in_order) ≡ 1 ∷ 128 ∷ 255 ∷ []
+  pub second_in_order_is : arrivals (amid second_in_order) ≡ 0 ∷ 1 ∷ 128 ∷ 255 ∷ 299 ∷ []
 
 -- Two payloads, 128 apart, and 129 apart the other way round: all is given but for the one bound, and the record is not what is
 -- demanded.

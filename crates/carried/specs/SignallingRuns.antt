@@ -50,8 +50,8 @@ pub record Runs : Type 0 where
   pub first_is : arrivals first ≡ 24 ∷ 87 ∷ 23 ∷ 150 ∷ []
   pub second_is : arrivals second ≡ 0 ∷ 24 ∷ 24 ∷ 87 ∷ 23 ∷ 150 ∷ 86 ∷ 153 ∷ []
   pub in_order : InOrder 0 line first_in_order second_in_order
-  pub first_in_order : arrivals first_in_order ≡ 24 ∷ 87 ∷ []
-  pub second_in_order : arrivals second_in_order ≡ 0 ∷ 24 ∷ 87 ∷ 150 ∷ []
+  pub first_in_order_is : arrivals first_in_order ≡ 24 ∷ 87 ∷ []
+  pub second_in_order_is : arrivals second_in_order ≡ 0 ∷ 24 ∷ 87 ∷ 150 ∷ []
 
 -- Two payloads, 64 apart, and 65 apart the other way round: all is given but for the one bound, and the record is not what is
 -- demanded.

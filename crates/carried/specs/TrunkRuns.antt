@@ -66,7 +66,7 @@ each before [] = []
 each before (p ∷ ps) = before ++ came p ∷ each before ps
 
 pub record Runs : Type 0 where
-  pub amid_digits : map reading_of amid_digits ≡ other_readings ++ signalling_reading ∷ refused length_wrong ∷ []
-  pub amid_signalling : map reading_of amid_signalling ≡ other_readings ++ digits_reading ∷ refused length_wrong ∷ []
+  pub amid_digits_is : map reading_of amid_digits ≡ other_readings ++ signalling_reading ∷ refused length_wrong ∷ []
+  pub amid_signalling_is : map reading_of amid_signalling ≡ other_readings ++ digits_reading ∷ refused length_wrong ∷ []
   pub digits : DigitsGiven acelp digit-runs.call (each amid_digits digit-runs.first) (each amid_digits digit-runs.second)
   pub signalling : SignallingGiven acelp 0 signalling-runs.line (each amid_signalling signalling-runs.first) (each amid_signalling signalling-runs.second)
