@@ -2,4 +2,3 @@ pub mod Cases
 pub mod Yields
 pub mod Parts
 pub mod OneAnswer
-pub mod Lent

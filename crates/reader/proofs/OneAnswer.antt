@@ -10,7 +10,8 @@ use prog.Memory.{Memory}
 use prog.Routine.{Routine}
 use contract.Lifetimes.{Lfts}
 use contract.Monad.{Fun, fact}
-use denote.Ref.{Bor}
+use denote.Bor.{Bor}
+use denote.MutBor.{MutBor}
 use Rattle.header.specs.declared.SubFrame.{SubFrame}
 use Rattle.reader.specs.declared.Found.{Found}
 use Rattle.reader.specs.declared.Reader.{Reader}
@@ -24,7 +25,7 @@ module _ {M : Type 1} {𝓤 : Ura M} (𝓛 : Logic 𝓤) (mem : Memory → SProp
   pub open-says : (κs : Lfts 1) (frame last : Bor (List ℕ)) (r : Reader) → (opens.clauses 𝓛 mem run κs (frame, tt)).ensures tt r (last, tt) ≡ fact 𝓤 (r ≡ opened frame)
   open-says κs frame last r = refl
 
-  pub step-says : (κs : Lfts 2) (d last : Bor Reader) (f : Found) → (step.clauses 𝓛 mem run κs (d, tt)).ensures tt f (last, tt) ≡ fact 𝓤 (IsStep d.now f last.now)
+  pub step-says : (κs : Lfts 2) (d last : MutBor Reader) (f : Found) → (step.clauses 𝓛 mem run κs (d, tt)).ensures tt f (last, tt) ≡ fact 𝓤 (IsStep d.now f last.now)
   step-says κs d last f = refl
 
   pub payload-says : (κs : Lfts 1) (d last : Reader) (sub end : SubFrame) (r : Bor (List ℕ)) → (payload.clauses 𝓛 mem run κs (d, (sub, tt))).ensures tt r (last, (end, tt)) ≡ fact 𝓤 (IsPayload d sub r)

@@ -231,3 +231,25 @@ finds-nth frame n =
     sym (is-placed n (length l + suc n) (opened frame) within)
     ∙ ap (placed n) (yields-the-opened-list frame (suc n))
     ∙ is-after n (suc n) l
+
+-- what is found after n steps more, where f was found last and r is the reader after it
+abbrev pub ahead : ℕ → Found → Reader → Found
+ahead zero f r = f
+ahead (suc n) f r = onward n r
+
+-- the first step: f is what it found, and p the reader after it
+pub ahead-from : (n : ℕ) (r : Reader) (f : Found) (p : Reader) → f ≡ found r → p ≡ stepped r → ahead n f p ≡ onward n r
+ahead-from zero r f p a b = a
+ahead-from (suc n) r f p a b = ap (onward n) b
+
+-- one of the steps that are left: g is what it found, and p the reader after it
+pub ahead-turn : (n : ℕ) (f : Found) (r : Reader) (g : Found) (p : Reader) → g ≡ found r → p ≡ stepped r → 0 < n → ahead (n - 1) g p ≡ ahead n f r
+ahead-turn zero f r g p a b h = absurd (omega arith)
+ahead-turn (suc n) f r g p a b h =
+    let one : suc n - 1 ≡ n = omega arith in
+    ap (λ (m : ℕ). ahead m g p) one ∙ ahead-from n r g p a b
+
+-- no step is left
+pub ahead-none : (n : ℕ) (f : Found) (r : Reader) → n ≤ 0 → ahead n f r ≡ f
+ahead-none zero f r h = refl
+ahead-none (suc n) f r h = absurd (omega arith)

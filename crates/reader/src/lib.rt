@@ -1,6 +1,6 @@
 // The frame reader (document 01, "A frame reader then holds the lent frame and its place in it, and yields sub-frames in
-// order, payloads as parts of the frame"). The functions over `Reader` are thin and proved by hand; the work is done by
-// `start`, `step_from` and `part`, on the slice and plain values.
+// order, payloads as parts of the frame"). The functions over `Reader` are thin; the work is done by `start`,
+// `step_from` and `part`, on the slice and plain values.
 #![tactic(auto)]
 
 ghost use Rattle.std.specs.Prelude.{◌≡◌};

@@ -1,5 +1,4 @@
 -- `reader::part` meets its contract: the part asked for where the frame has it, else an empty one.
-use borrow.Author.Rules.{rules}
 use native.Mathlib.Omega.{arith}
 use Rattle.reader.proofs.Cases as cases
 use Rattle.reader.proofs.part.Goals as goal

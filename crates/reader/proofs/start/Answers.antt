@@ -1,5 +1,4 @@
 -- `reader::start` meets its contract: what checking the frame tells decides.
-use borrow.Author.Rules.{rules}
 use mathlib.Core.Path.{sym, ◌∙◌}
 use Rattle.reader.proofs.Cases as cases
 use Rattle.reader.proofs.start.Goals as goal

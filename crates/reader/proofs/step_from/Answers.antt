@@ -1,5 +1,4 @@
 -- `reader::step_from` meets its contract: one line for each thing that a header tells.
-use borrow.Author.Rules.{rules}
 use native.Mathlib.Omega.{arith}
 use mathlib.Core.Path.{sym, ◌∙◌}
 use Rattle.header.proofs.HeaderInverse as inverse
