@@ -22,13 +22,15 @@ returns-in-Written-clause-says c = let a = c.args in
           (keeping.size_is a.kept.now a.piece.now a.have room size c.least-n.ensures c.put_octets.ensures.answer c.put_octets.ensures.holds _ c.in-Written.is)
 
 pub returns-in-NotWritten-clause-says : goal.returns-in-NotWritten-clause-says
-returns-in-NotWritten-clause-says c = let both = let a = c.args in
+returns-in-NotWritten-clause-says c =
+    let a = c.args in
     let size = ap (λ (l : Line). l.size) c.line_end-line.ensures in
     let room : a.have ≤ length a.kept.now = omega (arith, c.if-room-have.false) in
-    keeping.never a.kept.now a.piece.now a.have room size c.least-n.ensures c.put_octets.ensures.answer c.put_octets.ensures.holds _ c.in-NotWritten.is in both.0
+    keeping.never a.kept.now a.piece.now a.have room size c.least-n.ensures c.put_octets.ensures.answer c.put_octets.ensures.holds _ c.in-NotWritten.is
 
 pub returns-in-NotWritten-clause-holds : goal.returns-in-NotWritten-clause-holds
-returns-in-NotWritten-clause-holds c = let both = let a = c.args in
+returns-in-NotWritten-clause-holds c =
+    let a = c.args in
     let size = ap (λ (l : Line). l.size) c.line_end-line.ensures in
     let room : a.have ≤ length a.kept.now = omega (arith, c.if-room-have.false) in
-    keeping.never a.kept.now a.piece.now a.have room size c.least-n.ensures c.put_octets.ensures.answer c.put_octets.ensures.holds _ c.in-NotWritten.is in both.1
+    keeping.never a.kept.now a.piece.now a.have room size c.least-n.ensures c.put_octets.ensures.answer c.put_octets.ensures.holds _ c.in-NotWritten.is

@@ -13,7 +13,7 @@ use borrow.Author.Rules.{rules}
 use Rattle.recording.proofs.pieces.text_end.Given as goal
 
 abbrev pub invariant-loop-at : goal.invariant-loop-at
-invariant-loop-at l = (t4 ≡ frame_key) × ((at ≤ length s) × (text_end s ≡ at + text_from begins (drop at s)))
+invariant-loop-at l = (l.at ≤ length l.s) × (text_end l.s ≡ l.at + text_from l.begins (drop l.at l.s))
 
 abbrev pub decreases-loop-at : goal.decreases-loop-at
-decreases-loop-at l = length s - at
+decreases-loop-at l = length l.s - l.at
