@@ -2,13 +2,11 @@
 use mathlib.Core.Bool.{true, false}
 use Rattle.octets.specs.Text.{starts}
 use Rattle.hexline.specs.Line.{frame_key}
-use Prim.Native.Nat.{◌+◌, ◌-◌, ◌≤◌}
-use mathlib.Core.Path.{◌≡◌, refl, sym, ap, ◌∙◌}
+use mathlib.Core.Path.{◌≡◌, sym, ap, ◌∙◌}
 use native.Mathlib.Omega.{arith}
-use lib.ListN.{length, drop}
-use Rattle.recording.specs.Pieces.{text_from, text_end}
+use lib.ListN.{drop}
+use Rattle.recording.specs.Pieces.{text_from}
 use Rattle.recording.proofs.Ends as ends
-use borrow.Author.Rules.{rules}
 use Rattle.recording.proofs.pieces.text_end.Goals as goal
 use Rattle.recording.proofs.pieces.text_end.Goals.{then-begins+else-starts, else-begins}
 
@@ -27,10 +25,10 @@ loop-at-preserved c =
     let on =
     ends.text-on s l.at c.loop-at-test.true l.begins
     (elim c.if-begins.branch [
-      then-begins+else-starts w ↦
+      | then-begins+else-starts w ↦
           let otherwise : starts (drop l.at s) frame_key ≡ false = ap (λ x. starts x frame_key) (sym (ends.rest-is s l.at)) ∙ sym w.starts.ensures ∙ w.if-starts.false in
           rw (w.if-begins.true, otherwise)
-    | else-begins w ↦ rw w.if-begins.false
+      | else-begins w ↦ rw w.if-begins.false
     ])
     in
     (omega arith, omega (arith, l.invariant.1))
