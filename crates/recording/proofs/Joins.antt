@@ -403,11 +403,11 @@ module _ {S : Type 0} (tell : Tell S) (by-start : ByStart tell) where
           → Reached (from begun.number state (part ++ whole pieces)) (said (pieces_told tell most room begun kept state pieces))
           (pieces_told tell most room begun kept state pieces).next (pieces_told tell most room begun kept state pieces).kept []
       unfolding pieces_told whole
-      pieces-reach state [] stands few = stays stands state [] few
-      pieces-reach {part} {begun} {kept} state (piece ∷ pieces) stands few =
+      pieces-reach {part = part} state [] stands few = stays stands state [] few
+      pieces-reach {part = part} {begun} {kept} state (piece ∷ pieces) stands few =
           let w : Walk S = parts_told tell most (length piece) room begun kept state piece in
           let first = parts-reach (length piece) state piece (whole pieces) (omega arith) stands few in
-          then first (pieces-reach w.state pieces first.stands first.few)
+          then first (pieces-reach {part = first.part} w.state pieces first.stands first.few)
 
       -- the last line is what is left
       pub last-reached :

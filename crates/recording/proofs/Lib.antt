@@ -1,7 +1,6 @@
 pub mod Blocks
 pub mod Ends
 pub mod Keeping
-pub mod Taking
 pub mod Walks
 pub mod Joins
 pub mod LineStart

@@ -1,12 +1,8 @@
 -- `recording::pieces::block_has_lf` meets its contract: whether the octets passed have one.
 use Prim.Native.Nat.{◌-◌, ◌≤◌}
-use mathlib.Core.Path.{◌≡◌, refl, ◌∙◌}
-use mathlib.Core.Logic.{⊎_elim}
-use native.Mathlib.Omega.{arith}
+use mathlib.Core.Path.{◌≡◌}
 use lib.ListN.{take, drop}
-use borrow.Author.Rules.{rules}
 use Rattle.octets.specs.Text.{has_lf}
-use Rattle.recording.proofs.Blocks as blocks
 use Rattle.recording.proofs.pieces.block_has_lf.Given as goal
 
 abbrev pub invariant-loop-i : goal.invariant-loop-i

@@ -4,7 +4,6 @@ use mathlib.Core.Bool.{false}
 use native.Mathlib.Omega.{arith}
 use lib.ListN.{take}
 use lib.Seq.{take_all}
-use borrow.Author.Rules.{rules}
 use Rattle.octets.specs.Text.{has_lf}
 use Rattle.recording.specs.Pieces.{line_size}
 use Rattle.recording.proofs.Blocks as blocks

@@ -1,12 +1,9 @@
 -- `recording::pieces::pass_blocks` meets its contract: the blocks passed have no LF.
 use Prim.Native.Nat.{◌-◌, ◌≤◌}
-use mathlib.Core.Path.{◌≡◌, sym, ◌∙◌}
-use mathlib.Core.Bool.{true, false}
-use native.Mathlib.Omega.{arith}
+use mathlib.Core.Path.{◌≡◌}
+use mathlib.Core.Bool.{false}
 use lib.ListN.{length, take}
-use borrow.Author.Rules.{rules}
 use Rattle.octets.specs.Text.{has_lf}
-use Rattle.recording.proofs.Blocks as blocks
 use Rattle.recording.proofs.pieces.pass_blocks.Given as goal
 
 abbrev pub invariant-loop-at : goal.invariant-loop-at

@@ -1,7 +1,6 @@
 -- `recording::stream::after` meets its contract.
 use borrow.Author.Tests.{lt-ltb, le-ltb}
 use Rattle.recording.specs.Stream.{next_number}
-use borrow.Author.Rules.{rules}
 use Rattle.recording.proofs.stream.after.Goals as goal
 
 pub returns-then-number-lt18446744073709551615 : goal.returns-then-number-lt18446744073709551615

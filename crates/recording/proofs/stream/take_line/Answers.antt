@@ -1,13 +1,9 @@
 -- `recording::stream::take_line` meets its contract: the line from the piece, or behind what is kept of it.
-use mathlib.Core.Path.{sym, ap, ◌∙◌}
-use mathlib.Core.Logic.{⊎_elim}
+use mathlib.Core.Path.{sym, ap}
 use native.Mathlib.Omega.{arith}
 use lib.Seq.{length-take-le}
-use borrow.Author.Rules.{rules}
-use Rattle.recording.specs.declared.pieces.Kept.{Kept}
 use Rattle.recording.specs.declared.pieces.Line.{Line}
 use Rattle.recording.proofs.Ends as ends
-use Rattle.recording.proofs.Taking as taking
 use Rattle.recording.proofs.stream.take_line.Goals as goal
 
 pub slice_bounds-read_line-end : goal.slice_bounds-read_line-end
