@@ -1,0 +1,15 @@
+-- `listing::listing::put_four` meets its contract: four fields, one behind the other.
+use native.Mathlib.Omega.{arith}
+use borrow.Author.Rules.{rules}
+use Rattle.octets.specs.Text.{ascii}
+use Rattle.printing.proofs.Appending as appending
+use Rattle.listing.specs.Listing.{four_fields}
+use Rattle.listing.proofs.listing.put_four.Goals as goal
+
+pub returns : goal.returns
+unfolding four_fields
+returns c = let start = c.before in
+    let one = appending.then-field (appending.none start.args.out.now start.args.at) (ascii "cid=") start.args.cid (omega (arith, start.requires)) (c.put_octet_field-past_cid.ensures.answer, c.put_octet_field-past_cid.ensures.holds) in
+    let two = appending.then-field one (ascii "type=") start.args.ptype (omega (arith, start.requires)) (c.put_octet_field-past_type.ensures.answer, c.put_octet_field-past_type.ensures.holds) in
+    let three = appending.then-field two (ascii "len=") start.args.len (omega (arith, start.requires)) (c.put_field-past_len.ensures.answer, c.put_field-past_len.ensures.holds) in
+    appending.then-field three (ascii "answer=") start.args.number (omega (arith, start.requires)) (c.put_octet_field.ensures.answer, c.put_octet_field.ensures.holds)
