@@ -1,0 +1,12 @@
+-- `following::following::put_read` meets its contract: the frame, or the refusal of the line.
+use mathlib.Core.Path.{sym}
+use native.Mathlib.Omega.{arith}
+use lib.ListN.{length-take}
+use lib.Seq.{length-take-le}
+use Rattle.following.proofs.Turns as turns
+use borrow.Author.Rules.{rules}
+use Rattle.following.proofs.following.put_read.Goals as goal
+
+pub returns : goal.returns
+returns c = let a = c.args in
+    turns.stands-as (turns.refused a.out.now a.at a.n a.read.number 0 a.trunk c.requires.at_in_bounds c.Put-refused.ensures) (turns.by-refused a.n a.table.now a.cid a.read a.frame.now a.trunk c.if-number-eq-SOUND.false)

@@ -1,0 +1,29 @@
+-- `following::stream::follow_piece` meets its contract: each turn takes a line, or what the piece has of it.
+use Prim.Native.Nat.{◌-◌}
+use mathlib.Core.Path.{◌≡◌, refl, sym}
+use native.Mathlib.Omega.{arith}
+use lib.ListN.{length}
+use borrow.Author.Rules.{rules}
+use Rattle.recording.proofs.Walks as walks
+use Rattle.following.specs.Following.{line_following}
+use Rattle.following.specs.Stream.{piece_followed}
+use Rattle.following.proofs.StreamTurns as turns
+use Rattle.following.proofs.stream.follow_piece.Goals as goal
+
+pub returns-then-out-used-lt-MOST_FOLLOWED : goal.returns-then-out-used-lt-MOST_FOLLOWED
+returns-then-out-used-lt-MOST_FOLLOWED c = let both = turns.promised (walks.short _ _ c.loop-at.invariant.0 c.loop-at-test.true c.if-out-used-lt-MOST_FOLLOWED.true) in record { says = both.0; keeps = both.1.0; holds = both.1.1 }
+
+pub overflow_add-at : goal.overflow_add-at
+overflow_add-at c = omega (arith, c.well_formed.0.0, walks.within _ _ c.loop-at.invariant.0 c.loop-at-test.true c.loop-at.frame c.take_line-line.result c.take_line-line.ensures.says)
+
+pub loop-at-smaller : goal.loop-at-smaller
+loop-at-smaller c = omega (arith, walks.within _ _ c.loop-at.invariant.0 c.loop-at-test.true c.loop-at.frame c.take_line-line.result c.take_line-line.ensures.says, walks.some-taken _ _ c.loop-at.invariant.0 c.loop-at-test.true c.loop-at.frame c.take_line-line.result c.take_line-line.ensures.says)
+
+pub loop-at-preserved : goal.loop-at-preserved
+loop-at-preserved c = (
+      turns.turn c.args.table.now c.args.cid c.loop-at.invariant.0 c.loop-at-test.true c.loop-at.frame c.take_line-line.result c.take_line-line.ensures.says (omega (arith, c.loop-at.invariant.1)) c.if-out-used-lt-MOST_FOLLOWED.false c.take_line-line.ensures.keeps c.take_line-line.ensures.holds c.put_taken-shown.ensures,
+      omega (arith, c.take_line-line.auto.1.1.1.0, c.loop-at.invariant.1),
+    )
+
+pub returns : goal.returns
+returns c = let both = turns.promised (walks.all _ _ c.loop-at.invariant.0 c.loop-at-test.false) in record { says = both.0; keeps = both.1.0; holds = both.1.1 }
