@@ -9,4 +9,4 @@ returns-then-number-eq-SOUND c = let a = c.args in
 
 pub returns : goal.returns
 returns c = let a = c.args in
-    turns.stands-as (turns.refused a.out.now a.at a.n c.check-checked.result.number c.check-checked.result.at a.trunk c.requires.at_in_bounds c.Put-refused.ensures) (turns.of-refused a.n a.table.now a.cid a.frame.now a.trunk c.check-checked.ensures.number c.check-checked.ensures.at c.if-number-eq-SOUND.false)
+    turns.stands-as (turns.refused a.out.now a.at a.n c.check-checked.result.number c.check-checked.result.at a.trunk c.requires.at_in_bounds (c.put_refused-next.ensures.answer, c.put_refused-next.ensures.holds)) (turns.of-refused a.n a.table.now a.cid a.frame.now a.trunk c.check-checked.ensures.number c.check-checked.ensures.at c.if-number-eq-SOUND.false)

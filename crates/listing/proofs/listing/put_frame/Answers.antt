@@ -20,6 +20,6 @@ returns-then-number-eq-SOUND c = let start = c.before in
 
 pub returns : goal.returns
 returns c = let start = c.before in
-    let lines = appending.refused-stands start.args.out.now start.args.at start.args.n c.check-checked.result.number c.check-checked.result.at (omega (arith, start.requires.at_in_bounds)) c.Put-refused.ensures in
+    let lines = appending.refused-stands start.args.out.now start.args.at start.args.n c.check-checked.result.number c.check-checked.result.at (omega (arith, start.requires.at_in_bounds)) (c.put_refused.ensures.answer, c.put_refused.ensures.holds) in
     appending.reads (appending.within lines 6709 (omega arith))
     (listings.of-refused start.args.n start.args.table.now start.args.frame.now c.check-checked.ensures.number c.check-checked.ensures.at c.if-number-eq-SOUND.false)

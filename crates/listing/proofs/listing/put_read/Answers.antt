@@ -11,5 +11,5 @@ use Rattle.listing.proofs.listing.put_read.Goals as goal
 pub returns : goal.returns
 returns c = let start = c.before in
     let a = start.args in
-    let lines = appending.refused-stands a.out.now a.at a.n a.read.number 0 (omega (arith, start.requires.at_in_bounds)) c.Put-refused.ensures in
+    let lines = appending.refused-stands a.out.now a.at a.n a.read.number 0 (omega (arith, start.requires.at_in_bounds)) (c.put_refused.ensures.answer, c.put_refused.ensures.holds) in
     appending.reads (appending.within lines 6709 (omega arith)) (listings.by-refused a.n a.table.now a.read a.frame.now c.if-number-eq-SOUND.false)
