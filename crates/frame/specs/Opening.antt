@@ -1,6 +1,6 @@
 -- Opening a frame (document 01, "Frame and sub-frame" and refusals 1 to 8): one information field of 1 to 1,600 octets,
 -- holding 1 to 64 sub-frames. "Order: 1, 2, then per sub-frame 8, 3, 4, 5, 6, 7."
-use Rattle.std.specs.Prelude.{ℕ, zero, suc, ◌+◌, ◌-◌, List, [], ◌∷◌, ◌++◌, Bool, cond, ◌&&◌, ltb, leb, eqb, length, replicate}
+use Rattle.std.specs.Prelude.{ℕ, zero, suc, ◌-◌, List, [], ◌∷◌, ◌++◌, Bool, cond, ◌&&◌, ltb, leb, eqb, length, replicate}
 use Rattle.refusal.specs.Numbers.{sound, field_empty, field_too_long, too_many_sub_frames}
 use Rattle.refusal.specs.Order.{◌gives◌, in_order}
 use Rattle.header.specs.declared.SubFrame.{SubFrame}

@@ -1,5 +1,5 @@
 -- `counts::round` meets its contract: a mask of so many ones leaves the remainder.
-use Rattle.std.proofs.Common.{◌≡◌, ℕ, ◌*◌, ◌%◌, ◌^◌, ◌<◌, ◌∙◌, one-mul, arith, pow_pos, shl_exact, rules}
+use Rattle.std.proofs.Common.{◌≡◌, ℕ, ◌*◌, ◌%◌, ◌^◌, ◌<◌, ◌∙◌, one-mul, arith, shl_exact}
 use lib.Bits.{and_mask}
 use Rattle.counts.proofs.round.Goals as goal
 

@@ -2,7 +2,6 @@
 use mathlib.Core.Path.{sym, ap}
 use Rattle.octets.specs.Made.{fit_of}
 use Rattle.data.proofs.DataCases as cases
-use borrow.Author.Rules.{rules}
 use Rattle.data.proofs.fit_data.Goals as goal
 
 pub returns-then-body-eq0 : goal.returns-then-body-eq0

@@ -7,7 +7,6 @@ use Rattle.octets.specs.Made.{Made, made}
 use Rattle.octets.proofs.MadeBack as back
 use Rattle.data.specs.Data.{data_made}
 use Rattle.data.proofs.DataCases as cases
-use borrow.Author.Rules.{rules}
 use Rattle.data.proofs.put_data.Goals as goal
 use Rattle.data.proofs.put_data.Goals.{In-Octets, Start}
 

@@ -2,7 +2,6 @@
 use mathlib.Core.Path.{sym}
 use borrow.Author.Tests.{eq-eqb, ne_eqb}
 use Rattle.data.proofs.DataCases as cases
-use borrow.Author.Rules.{rules}
 use Rattle.data.proofs.read_data.Goals as goal
 
 pub returns-then-payload-lt3 : goal.returns-then-payload-lt3

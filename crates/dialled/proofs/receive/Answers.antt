@@ -2,7 +2,6 @@
 use mathlib.Core.Path.{sym, ap, ◌∙◌}
 use Rattle.dialled.specs.Receiver.{replayed}
 use Rattle.dialled.proofs.ReceiverCases as cases
-use borrow.Author.Rules.{rules}
 use Rattle.dialled.proofs.receive.Goals as goal
 
 pub returns-in-BadDigits : goal.returns-in-BadDigits

@@ -8,7 +8,6 @@ use Rattle.levels.specs.Level.{code_of}
 use Rattle.digits.specs.Layout.{window_wrong, level_low}
 use Rattle.dialling.specs.Sender.{window_in, stray_edge, period}
 use Rattle.dialling.proofs.SenderCases as cases
-use borrow.Author.Rules.{rules}
 use Rattle.dialling.proofs.send.Goals as goal
 use Rattle.dialling.proofs.send.Goals.{After-level_low, After-period, After-stray_edge, After-window_wrong, Else-level_low, Else-window_wrong}
 

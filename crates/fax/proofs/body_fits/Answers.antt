@@ -1,6 +1,5 @@
 -- `fax::body_fits` meets its contract.
 use Rattle.fax.specs.Fax.{body_sized}
-use borrow.Author.Rules.{rules}
 use Rattle.fax.proofs.body_fits.Goals as goal
 
 pub returns-in-Off : goal.returns-in-Off

@@ -9,7 +9,6 @@ use Rattle.octets.specs.Made.{fit_of}
 use Rattle.fax.specs.Fax.{head_octets, unstamped, body_sized, refused_on}
 use Rattle.refusal.proofs.Order.{here, past}
 use Rattle.fax.proofs.FaxCases as cases
-use borrow.Author.Rules.{rules}
 use Rattle.fax.proofs.fit_fax.Goals as goal
 use Rattle.fax.proofs.fit_fax.Goals.{Else-lacks_stamp, Else-not-body_fits, Else-on_refused}
 

@@ -4,7 +4,6 @@ use native.Mathlib.Omega.{arith}
 use Rattle.fax.specs.Fax.{refused_on}
 use Rattle.fax.proofs.Commands.{not-on}
 use Rattle.fax.proofs.FaxCases as cases
-use borrow.Author.Rules.{rules}
 use Rattle.fax.proofs.head_octets.Goals as goal
 
 pub overflow_add-result : goal.overflow_add-result

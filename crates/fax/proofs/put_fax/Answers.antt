@@ -1,12 +1,11 @@
 -- `fax::put_fax` meets its contract: what fits is made, and its octets in front and its body are put.
-use mathlib.Core.Path.{◌≡◌, sym, ap, ◌∙◌}
+use mathlib.Core.Path.{◌≡◌, sym, ◌∙◌}
 use mathlib.Core.List.{◌++◌}
-use lib.ListN.{length, take}
+use lib.ListN.{take}
 use Rattle.octets.specs.Made.{Made}
 use Rattle.octets.proofs.MadeBack as writing
 use Rattle.fax.specs.Fax.{head_octets, fax_made}
 use Rattle.fax.proofs.FaxCases as cases
-use borrow.Author.Rules.{rules}
 use Rattle.fax.proofs.put_fax.Goals as goal
 use Rattle.fax.proofs.put_fax.Goals.{After-front_size-front, In-Octets, Start}
 

@@ -7,7 +7,6 @@ use lib.Dec.{ltb}
 use Rattle.fax.specs.declared.Stamp.TheVariants.{NoStamp}
 use Rattle.fax.specs.Fax.{code_in}
 use Rattle.fax.proofs.FaxCases as cases
-use borrow.Author.Rules.{rules}
 use Rattle.fax.proofs.read_bare.Goals as goal
 use Rattle.fax.proofs.read_bare.Goals.{After-plain_command-command, Else-needs_stamp}
 

@@ -1,9 +1,7 @@
 -- `fax::read_fax` meets its contract: the first octet says how the payload is read.
 use mathlib.Core.Path.{sym}
 use native.Mathlib.Omega.{arith}
-use borrow.Author.Tests.{le-leb, lt-leb}
 use Rattle.fax.proofs.FaxCases as cases
-use borrow.Author.Rules.{rules}
 use Rattle.fax.proofs.read_fax.Goals as goal
 
 pub returns-then-payload-eq0 : goal.returns-then-payload-eq0

@@ -3,7 +3,6 @@ use mathlib.Core.Path.{◌≡◌, sym, ◌∙◌}
 use mathlib.Core.Bool.{false}
 use Rattle.fax.specs.Fax.{ei2_in, on_in, refused_on}
 use Rattle.fax.proofs.FaxCases as cases
-use borrow.Author.Rules.{rules}
 use Rattle.fax.proofs.read_on.Goals as goal
 use Rattle.fax.proofs.read_on.Goals.{After-tone_refused, Else-ei2_set}
 

@@ -7,7 +7,6 @@ use lib.ListN.{length}
 use Rattle.fax.specs.declared.Stamp.TheVariants.{Stamped}
 use Rattle.fax.specs.Fax.{time_in, body_sized, ei2_in}
 use Rattle.fax.proofs.FaxCases as cases
-use borrow.Author.Rules.{rules}
 use Rattle.fax.proofs.read_stamped.Goals as goal
 use Rattle.fax.proofs.read_stamped.Goals.{After-plain_command-command, Else-not-body_fits}
 

@@ -1,10 +1,5 @@
 -- `faxing::handed_on` meets its contract: after i turns the first i places are filled.
-use Prim.Native.Nat.{◌-◌, ◌≤◌}
-use mathlib.Core.Path.{◌≡◌}
 use native.Mathlib.Omega.{arith}
-use mathlib.Core.List.{reverse}
-use lib.ListN.{take, replicate}
-use lib.Seq.{paste-zero}
 use Rattle.faxing.proofs.Handed as handed
 use Rattle.faxing.proofs.handed_on.Goals as goal
 

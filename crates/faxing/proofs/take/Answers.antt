@@ -1,7 +1,6 @@
 -- `faxing::take` meets its contract.
 use mathlib.Core.Path.{sym, ◌∙◌}
 use Rattle.faxing.proofs.Taken as taken
-use borrow.Author.Rules.{rules}
 use Rattle.faxing.proofs.take.Goals as goal
 
 pub returns-then-refused-ne-SOUND : goal.returns-then-refused-ne-SOUND

@@ -1,12 +1,5 @@
 -- `frame::open` meets its contract: the headers that were checked tell the sub-frames, one a turn.
-use Prim.Native.Nat.{◌-◌, ◌<◌}
-use borrow.Author.Rules.{rules}
-use native.Mathlib.Omega.{arith}
-use mathlib.Core.Path.{sym, ap, ◌∙◌}
-use lib.ListN.{length}
-use Rattle.header.specs.declared.Header.TheVariants.{Sub}
-use Rattle.frame.specs.Opening.{opening}
-use Rattle.header.proofs.HeaderInverse as inverse
+use Prim.Native.Nat.{◌-◌}
 use Rattle.frame.proofs.OpeningList as list
 use Rattle.frame.proofs.open.Given as goal
 

@@ -1,11 +1,8 @@
 -- `frame::scan_from` meets its contract: each turn finds one sub-frame more, and what stops the loop stops the scan.
-use Prim.Native.Nat.{◌-◌}
-use borrow.Author.Rules.{rules}
 use native.Mathlib.Omega.{arith}
 use mathlib.Core.Path.{◌≡◌, sym, ◌∙◌}
 use Rattle.header.specs.declared.Header.TheVariants.{Sub}
 use Rattle.header.specs.Header.{header_at}
-use Rattle.frame.specs.Opening.{most_sub_frames, scan}
 use Rattle.frame.proofs.OpeningTurns as turns
 use Rattle.header.proofs.HeaderInverse as inverse
 use Rattle.frame.proofs.scan_from.Goals as goal

@@ -1,8 +1,6 @@
 -- `header::header_at` meets its contract: at each return the tests that led there say which case of `told` holds.
 use mathlib.Core.Path.{sym, ◌∙◌}
-use mathlib.Core.Logic.{⊎_elim}
 use Prim.Native.Nat.{◌≤◌}
-use borrow.Author.Rules.{rules}
 use lib.ListN.{length}
 use native.Mathlib.Omega.{arith}
 use Rattle.header.proofs.HeaderCases as cases
@@ -15,15 +13,15 @@ way : (c : After-cid_of-cid) → header.Way c.args.frame.now c.args.at c.if-octe
 way c =
     let a = c.args in
     elim c.if-octet1-gt127.branch [
-      then-octet1-gt127+else-frame-next w ↦ header.with-1a a.frame.now a.at w.if-octet1-gt127.true (omega (arith, c.type_inv.frame a.at)) w.octet1a-is w.next-is
-    | else-octet1-gt127 w ↦ header.without-1a a.frame.now a.at w.if-octet1-gt127.false w.octet1a-is w.next-is
+      | then-octet1-gt127+else-frame-next w ↦ header.with-1a a.frame.now a.at w.if-octet1-gt127.true (omega (arith, c.type_inv.frame a.at)) w.octet1a-is w.next-is
+      | else-octet1-gt127 w ↦ header.without-1a a.frame.now a.at w.if-octet1-gt127.false w.octet1a-is w.next-is
     ]
 
 within : (c : After-cid_of-cid) → c.if-octet1-gt127.next ≤ length c.args.frame.now
 within c =
     elim c.if-octet1-gt127.branch [
-      then-octet1-gt127+else-frame-next w ↦ omega (arith, w.if-frame-next.false, w.next-is)
-    | else-octet1-gt127 w ↦ omega (arith, w.next-is, c.if-frame-at.false)
+      | then-octet1-gt127+else-frame-next w ↦ omega (arith, w.if-frame-next.false, w.next-is)
+      | else-octet1-gt127 w ↦ omega (arith, w.next-is, c.if-frame-at.false)
     ]
 
 begun :

@@ -1,7 +1,5 @@
 -- `header::sub_at` meets its contract.
 use mathlib.Core.Path.{refl, ◌∙◌}
-use mathlib.Core.Logic.{⊎_elim}
-use borrow.Author.Rules.{rules}
 use native.Mathlib.Omega.{arith}
 use Rattle.header.proofs.HeaderRead as header
 use Rattle.header.proofs.sub_at.Goals as goal
@@ -16,8 +14,8 @@ begun c =
       here = c.if-frame-at.false;
       way =
           elim c.if-octet1-gt127.branch [
-            then-octet1-gt127 w ↦ header.with-1a a.frame.now a.at w.if-octet1-gt127.true (omega (arith, c.type_inv.frame a.at)) (w.octet1a-is ∙ w.octet-octet1a.ensures) w.next-is
-          | else-octet1-gt127 w ↦ header.without-1a a.frame.now a.at w.if-octet1-gt127.false w.octet1a-is w.next-is
+            | then-octet1-gt127 w ↦ header.with-1a a.frame.now a.at w.if-octet1-gt127.true (omega (arith, c.type_inv.frame a.at)) (w.octet1a-is ∙ w.octet-octet1a.ensures) w.next-is
+            | else-octet1-gt127 w ↦ header.without-1a a.frame.now a.at w.if-octet1-gt127.false w.octet1a-is w.next-is
           ];
       cid-is = c.cid_of-cid.ensures;
     }

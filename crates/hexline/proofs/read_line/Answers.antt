@@ -1,5 +1,5 @@
 -- `hexline::read_line` meets its contract: the tests say which refusal is due, or which characters are decoded.
-use Rattle.std.proofs.Common.{sym, ◌∙◌, arith, rules}
+use Rattle.std.proofs.Common.{sym, ◌∙◌, arith}
 use borrow.Author.Tests.{not-true, not-false}
 use Rattle.hexline.proofs.LineCases as cases
 use Rattle.hexline.proofs.read_line.Goals as goal

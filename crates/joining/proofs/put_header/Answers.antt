@@ -1,6 +1,6 @@
 -- `joining::put_header` meets its contract: the tests say which refusal or which of the header's four shapes is due, and each
 -- shape's octets fit the room.
-use mathlib.Core.Path.{◌≡◌, refl}
+use mathlib.Core.Path.{◌≡◌}
 use mathlib.Core.List.{List, [], ◌∷◌}
 use Prim.Native.Nat.{ℕ, ◌+◌, ◌*◌, ◌/◌, ◌%◌}
 use native.Mathlib.Numerals.{add-one, add-two}
@@ -8,7 +8,6 @@ use native.Mathlib.Omega.{arith}
 use lib.ListN.{length-set}
 use Rattle.joining.specs.Joining.{shortest_header}
 use Rattle.joining.proofs.HeaderWritten as header
-use borrow.Author.Rules.{rules}
 use Rattle.joining.proofs.put_header.Goals as goal
 use Rattle.joining.proofs.put_header.Goals.{Else-last, Else-last-2, Then-last, Then-last-2}
 
@@ -104,7 +103,7 @@ returns-then-room-at-clause-answer c = let a = c.args in
 
 pub returns-then-room-at-2-clause-answer : goal.returns-then-room-at-2-clause-answer
 returns-then-room-at-2-clause-answer c = header.small _ _ _ _ _ c.if-cid-lt4.false c.if-ptype-gt15.false
-      (rw c.header_size.ensures at c.if-room-at-2.true)
+    (rw c.header_size.ensures at c.if-room-at-2.true)
 
 pub bounds-room-at : goal.bounds-room-at
 bounds-room-at c = omega (arith, (one (goal.at.bounds-room-at c).Then-last).within)

@@ -1,9 +1,5 @@
 -- `octets::copy` meets its contract: after i turns the first i octets stand in their places.
-use Prim.Native.Nat.{◌-◌, ◌≤◌}
-use mathlib.Core.Path.{◌≡◌}
 use native.Mathlib.Omega.{arith}
-use lib.ListN.{length}
-use lib.Seq.{paste, paste-zero}
 use Rattle.octets.proofs.Writes as copies
 use Rattle.octets.proofs.copy.Goals as goal
 

@@ -1,10 +1,8 @@
 -- `octets::copy` meets its contract: after i turns the first i octets stand in their places.
 use Prim.Native.Nat.{◌-◌, ◌≤◌}
 use mathlib.Core.Path.{◌≡◌}
-use native.Mathlib.Omega.{arith}
 use lib.ListN.{length}
-use lib.Seq.{paste, paste-zero}
-use Rattle.octets.proofs.Writes as copies
+use lib.Seq.{paste}
 use Rattle.octets.proofs.copy.Given as goal
 
 abbrev pub invariant-loop-i : goal.invariant-loop-i

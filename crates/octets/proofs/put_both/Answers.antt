@@ -1,13 +1,12 @@
 -- `octets::put_both` meets its contract: the tests pass exactly when both runs fit.
 use Prim.Native.Nat.{ℕ, ◌+◌, ◌≤◌}
-use mathlib.Core.Path.{refl, ap, ◌∙◌}
+use mathlib.Core.Path.{ap, ◌∙◌}
 use mathlib.Core.List.{List, ◌++◌}
 use native.Mathlib.Nat.{add_assoc}
 use native.Mathlib.Omega.{arith}
 use lib.ListN.{length, length-append}
 use Rattle.octets.specs.Room.{written}
 use Rattle.octets.proofs.Writes as writes
-use borrow.Author.Rules.{rules}
 use Rattle.octets.proofs.put_both.Goals as goal
 
 pub returns-then-room-at-clause-answer : goal.returns-then-room-at-clause-answer
@@ -22,10 +21,10 @@ returns-then-left-head-2-clause-answer c = let a = c.args in writes.too_small a.
 pub returns-clause-answer : goal.returns-clause-answer
 returns-clause-answer c = let a = c.args in
     let fits : a.at + length a.head.now + length a.body.now ≤ length a.room.now = omega arith in rw (add_assoc, ← (length-append a.head.now a.body.now))
-          (writes.room_for a.room.now (a.head.now ++ a.body.now) a.at (simp length-append (omega arith)))
+    (writes.room_for a.room.now (a.head.now ++ a.body.now) a.at (simp length-append (omega arith)))
 
 pub returns-clause-holds : goal.returns-clause-holds
 returns-clause-holds c = let a = c.args in
     let fits : a.at + length a.head.now + length a.body.now ≤ length a.room.now = omega arith in c.copy-2.ensures
-          ∙ ap (λ (l : List ℕ). written l (a.at + length a.head.now) a.body.now) c.copy.ensures
-          ∙ writes.written_twice a.room.now a.head.now a.body.now a.at fits
+    ∙ ap (λ (l : List ℕ). written l (a.at + length a.head.now) a.body.now) c.copy.ensures
+    ∙ writes.written_twice a.room.now a.head.now a.body.now a.at fits

@@ -1,11 +1,9 @@
 -- `octets::put_octets` meets its contract: past the test the octets fit.
 use Prim.Native.Nat.{◌+◌, ◌≤◌}
-use mathlib.Core.Path.{refl, sym, ◌∙◌}
-use native.Mathlib.Omega.{arith}
+use mathlib.Core.Path.{sym, ◌∙◌}
 use borrow.Author.Tests.{ltb-true, ltb-false}
 use lib.ListN.{length}
 use Rattle.octets.proofs.Writes as writes
-use borrow.Author.Rules.{rules}
 use Rattle.octets.proofs.put_octets.Goals as goal
 use Rattle.octets.proofs.put_octets.Goals.{Else-exceeds}
 

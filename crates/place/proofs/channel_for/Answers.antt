@@ -1,5 +1,4 @@
 -- `place::channel_for` meets its contract: 24, 4, then what the record says.
-use borrow.Author.Rules.{rules}
 use Rattle.place.proofs.ChannelCases as cases
 use Rattle.place.proofs.channel_for.Goals as goal
 

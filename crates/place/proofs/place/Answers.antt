@@ -1,9 +1,5 @@
 -- `place::place` meets its contract: 22, 23, 21, and no sum is made that could pass the largest number.
-use Prim.Native.Nat.{◌+◌, ◌≤◌}
 use mathlib.Core.Path.{sym, ◌∙◌}
-use native.Mathlib.Omega.{arith}
-use borrow.Author.Rules.{rules}
-use Rattle.frame.specs.Opening.{most_octets, most_sub_frames}
 use Rattle.place.proofs.PlaceCases as cases
 use Rattle.place.proofs.place.Goals as goal
 

@@ -2,7 +2,6 @@
 use mathlib.Core.Path.{sym, ap, ◌∙◌}
 use Rattle.seized.specs.Receiver.{replayed}
 use Rattle.seized.proofs.ReceiverCases as cases
-use borrow.Author.Rules.{rules}
 use Rattle.seized.proofs.receive.Goals as goal
 
 pub returns-then-read-eq-SOUND : goal.returns-then-read-eq-SOUND

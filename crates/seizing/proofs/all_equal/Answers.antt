@@ -1,9 +1,8 @@
 -- `seizing::all_equal` meets its contract: after i turns the samples from i on decide.
-use Prim.Native.Nat.{ℕ, ◌-◌, ◌≤◌}
-use mathlib.Core.Path.{◌≡◌, refl}
+use Prim.Native.Nat.{ℕ}
+use mathlib.Core.Path.{refl}
 use mathlib.Core.List.{List}
 use native.Mathlib.Omega.{arith}
-use borrow.Author.Rules.{rules}
 use borrow.Author.Tests.{eq-eqb, ne_eqb}
 use lib.Dec.{eqb}
 use lib.ListN.{get_or}
@@ -21,9 +20,9 @@ returns-then-sample-samples c = let a = c.args in
 
 pub loop-i-preserved : goal.loop-i-preserved
 loop-i-preserved c = let a = c.args in (
-      omega arith,
-      samples-of.goes_on (equal-looks a.sample a.samples) _ 10 c.loop-i.i c.loop-i.invariant.1 c.loop-i-test.true (eq-eqb _ _ c.if-sample-samples.false),
-    )
+  omega arith,
+  samples-of.goes_on (equal-looks a.sample a.samples) _ 10 c.loop-i.i c.loop-i.invariant.1 c.loop-i-test.true (eq-eqb _ _ c.if-sample-samples.false),
+)
 
 pub returns : goal.returns
 returns c = let a = c.args in

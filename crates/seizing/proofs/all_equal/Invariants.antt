@@ -1,13 +1,6 @@
 -- `seizing::all_equal` meets its contract: after i turns the samples from i on decide.
-use Prim.Native.Nat.{ℕ, ◌-◌, ◌≤◌}
-use mathlib.Core.Path.{◌≡◌, refl}
-use mathlib.Core.List.{List}
-use native.Mathlib.Omega.{arith}
-use borrow.Author.Rules.{rules}
-use borrow.Author.Tests.{eq-eqb, ne_eqb}
-use lib.Dec.{eqb}
-use lib.ListN.{get_or}
-use Rattle.signalling.proofs.Samples as samples-of
+use Prim.Native.Nat.{◌-◌, ◌≤◌}
+use mathlib.Core.Path.{◌≡◌}
 use Rattle.seizing.specs.Sender.{all_equal}
 use Rattle.seizing.proofs.all_equal.Given as goal
 

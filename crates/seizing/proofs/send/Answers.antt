@@ -1,7 +1,6 @@
 -- `seizing::send` meets its contract.
 use mathlib.Core.Path.{sym, ◌∙◌}
 use Rattle.seizing.proofs.SenderCases as cases
-use borrow.Author.Rules.{rules}
 use Rattle.seizing.proofs.send.Goals as goal
 
 pub returns-then-ten_allowed : goal.returns-then-ten_allowed

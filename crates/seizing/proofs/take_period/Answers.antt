@@ -1,7 +1,6 @@
 -- `seizing::take_period` meets its contract.
 use mathlib.Core.Path.{◌∙◌}
 use Rattle.seizing.proofs.SenderCases as cases
-use borrow.Author.Rules.{rules}
 use Rattle.seizing.proofs.take_period.Goals as goal
 use Rattle.seizing.proofs.take_period.Goals.{After-decide}
 

@@ -13,7 +13,6 @@ use Rattle.voice.specs.Voice.{codings, voiceless}
 use Rattle.sid.specs.Sid.{sid_octets, out_of_range, sid_made}
 use Rattle.refusal.proofs.Order.{here, past}
 use Rattle.sid.proofs.SidCases as cases
-use borrow.Author.Rules.{rules}
 use Rattle.sid.proofs.fit_sid.Goals as goal
 use Rattle.sid.proofs.fit_sid.Goals.{After-out_of_range, Else-coding_count-eq0, Else-due-eq0}
 

@@ -1,5 +1,4 @@
 -- `sid::put_sid` meets its contract: what fits is two octets with noise, and none without.
-use Prim.Native.Nat.{◌≤◌}
 use mathlib.Core.Path.{◌≡◌, sym, ap, ◌∙◌}
 use mathlib.Core.List.{[]}
 use native.Mathlib.Omega.{arith}
@@ -12,7 +11,6 @@ use Rattle.octets.proofs.MadeBack as writing
 use Rattle.sid.specs.declared.Sid.{Sid}
 use Rattle.sid.specs.Sid.{magnitude_in, octets_for, sid_made}
 use Rattle.sid.proofs.SidCases as cases
-use borrow.Author.Rules.{rules}
 use Rattle.sid.proofs.put_sid.Goals as goal
 use Rattle.sid.proofs.put_sid.Goals.{In-Octets, Start}
 

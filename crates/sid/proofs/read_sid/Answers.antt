@@ -15,7 +15,6 @@ use Rattle.voice.specs.Voice.{codings, voiceless}
 use Rattle.sid.specs.Sid.{sid_octets}
 use Rattle.refusal.proofs.Order.{here, past}
 use Rattle.sid.proofs.SidCases as cases
-use borrow.Author.Rules.{rules}
 use Rattle.sid.proofs.read_sid.Goals as goal
 use Rattle.sid.proofs.read_sid.Goals.{Else-coding_count-eq0, Else-payload-due}
 

@@ -1,7 +1,6 @@
 -- `trunk::take` meets its contract.
 use mathlib.Core.Path.{◌∙◌}
 use Rattle.trunk.proofs.Cases as cases
-use borrow.Author.Rules.{rules}
 use Rattle.trunk.proofs.take.Goals as goal
 
 pub returns-in-OfVoice : goal.returns-in-OfVoice

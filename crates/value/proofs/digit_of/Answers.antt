@@ -1,7 +1,6 @@
 -- `value::digit_of` meets its contract.
 use borrow.Author.Tests.{lt-ltb, le-ltb}
 use Rattle.value.specs.Value.{digit_of}
-use borrow.Author.Rules.{rules}
 use Rattle.value.proofs.digit_of.Goals as goal
 
 pub returns-then-octet-lt48 : goal.returns-then-octet-lt48

@@ -2,7 +2,6 @@
 use mathlib.Core.Path.{refl}
 use mathlib.Core.List.{[], ◌∷◌}
 use Rattle.value.proofs.Values as values
-use borrow.Author.Rules.{rules}
 use Rattle.value.proofs.number_by.Goals as goal
 
 pub returns-then-a-gt9 : goal.returns-then-a-gt9

@@ -4,7 +4,6 @@ use mathlib.Core.List.{[], ◌∷◌}
 use Rattle.record.specs.declared.syntax.Syntax.TheVariants.{Acelp, Pcm, G727, G728, G7231, Data, Fax}
 use Rattle.value.specs.Value.{word_of, word_among}
 use Rattle.value.proofs.Values as values
-use borrow.Author.Rules.{rules}
 use Rattle.value.proofs.word_of.Goals as goal
 use Rattle.value.proofs.word_of.Goals.{Else-starts, Else-starts-2, Else-starts-3, Else-starts-4, Else-starts-5, Else-starts-6, Else-starts-7}
 

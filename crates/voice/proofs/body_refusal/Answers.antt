@@ -1,14 +1,11 @@
 -- `voice::body_refusal` meets its contract: no voice, one frame, or blocks, by the place of the syntax.
 use Prim.Native.Nat.{ℕ, ◌*◌, ◌/◌, ◌%◌, ◌^◌}
 use mathlib.Core.Path.{◌≡◌, sym, ap, ◌∙◌}
-use mathlib.Core.Bool.{true}
 use mathlib.Core.Logic.{⊎_elim}
 use native.Mathlib.Omega.{arith}
-use borrow.Author.Rules.{rules}
 use Rattle.octets.proofs.Order.{lt-or-le}
-use Rattle.voice.specs.Voice.{codings, is_g7231}
+use Rattle.voice.specs.Voice.{codings}
 use Rattle.voice.specs.Private.{in_hex, fives_at}
-use Rattle.voice.proofs.Sizes as sizes
 use Rattle.voice.proofs.Bits as bits
 use Rattle.voice.proofs.VoiceCases as cases
 use Rattle.voice.proofs.body_refusal.Goals as goal

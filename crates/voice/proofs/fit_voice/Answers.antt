@@ -8,7 +8,6 @@ use Rattle.octets.specs.Made.{fit_of}
 use Rattle.voice.specs.Voice.{front_of, most_sequence}
 use Rattle.voice.proofs.Sizes as sizes
 use Rattle.voice.proofs.VoiceCases as cases
-use borrow.Author.Rules.{rules}
 use Rattle.voice.proofs.fit_voice.Goals as goal
 use Rattle.voice.proofs.fit_voice.Goals.{After-most_sequence}
 

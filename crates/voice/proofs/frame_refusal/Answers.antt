@@ -1,7 +1,6 @@
 -- `voice::frame_refusal` meets its contract.
 use mathlib.Core.Path.{sym, ◌∙◌}
 use Rattle.voice.proofs.VoiceCases as cases
-use borrow.Author.Rules.{rules}
 use Rattle.voice.proofs.frame_refusal.Goals as goal
 
 pub returns-then-body-g7231_octets : goal.returns-then-body-g7231_octets

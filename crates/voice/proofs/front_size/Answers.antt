@@ -1,6 +1,5 @@
 -- `voice::front_size` meets its contract.
 use Rattle.voice.specs.Voice.{front_of}
-use borrow.Author.Rules.{rules}
 use Rattle.voice.proofs.front_size.Goals as goal
 
 pub returns : goal.returns

@@ -8,7 +8,6 @@ use Rattle.octets.proofs.MadeBack as writing
 use Rattle.voice.specs.Voice.{front_of, front_octets, voice_made}
 use Rattle.voice.proofs.Sizes as sizes
 use Rattle.voice.proofs.VoiceCases as cases
-use borrow.Author.Rules.{rules}
 use Rattle.voice.proofs.put_voice.Goals as goal
 use Rattle.voice.proofs.put_voice.Goals.{In-Octets, Start}
 

@@ -1,9 +1,6 @@
 -- `voice::read_voice` meets its contract.
-use Prim.Native.Nat.{◌-◌}
 use mathlib.Core.Path.{sym}
-use lib.Seq.{length-take-le}
 use Rattle.voice.proofs.VoiceCases as cases
-use borrow.Author.Rules.{rules}
 use Rattle.voice.proofs.read_voice.Goals as goal
 
 pub returns-then-payload-front : goal.returns-then-payload-front

@@ -1,6 +1,5 @@
 -- `card::handing::find` meets its contract: the record of the sub-channel decides what a sound frame gives.
 use mathlib.Core.Path.{sym, ap, ◌∙◌}
-use borrow.Author.Rules.{rules}
 use Rattle.record.specs.declared.table.Found.{Found}
 use Rattle.frame.specs.Opening.{opening}
 use Rattle.card.specs.Handing.{first_of, on_channel}

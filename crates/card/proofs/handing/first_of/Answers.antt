@@ -1,12 +1,10 @@
 -- `card::handing::first_of` meets its contract: each turn passes a sub-frame that does not serve.
-use Prim.Native.Nat.{◌-◌, ◌≤◌}
+use Prim.Native.Nat.{◌≤◌}
 use mathlib.Core.Path.{◌≡◌, sym, ◌∙◌}
 use native.Mathlib.Omega.{arith}
 use lib.ListN.{length}
-use borrow.Author.Rules.{rules}
 use Rattle.header.specs.declared.Header.TheVariants.{Sub}
 use Rattle.header.specs.Header.{header_at, end_of}
-use Rattle.frame.specs.Opening.{most_sub_frames}
 use Rattle.header.proofs.HeaderInverse.{ends-within}
 use Rattle.record.specs.declared.table.Found.TheVariants.{Provisioned}
 use Rattle.card.proofs.HandingCases as cases

@@ -1,5 +1,4 @@
 -- `card::handing::hand` meets its contract: octets, place and source by what was found.
-use borrow.Author.Rules.{rules}
 use native.Mathlib.Omega.{arith}
 use Rattle.card.proofs.HandingCases as cases
 use Rattle.card.proofs.handing.hand.Goals as goal

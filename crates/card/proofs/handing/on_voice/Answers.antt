@@ -1,6 +1,5 @@
 -- `card::handing::on_voice` meets its contract: the length of the field, then its headers.
 use mathlib.Core.Path.{sym, ◌∙◌}
-use borrow.Author.Rules.{rules}
 use Rattle.record.specs.declared.table.Found.TheVariants.{Provisioned}
 use Rattle.card.proofs.HandingCases as cases
 use Rattle.card.proofs.handing.on_voice.Goals as goal

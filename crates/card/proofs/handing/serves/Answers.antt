@@ -1,6 +1,5 @@
 -- `card::handing::serves` meets its contract: the three tests.
 use mathlib.Core.Path.{sym, refl, ◌∙◌}
-use borrow.Author.Rules.{rules}
 use Rattle.record.specs.declared.table.Found.TheVariants.{Provisioned}
 use Rattle.card.proofs.HandingCases as cases
 use Rattle.card.proofs.handing.serves.Goals as goal

@@ -6,7 +6,6 @@ use Rattle.octets.specs.Made.{fit_of}
 use Rattle.levels.specs.Level.{code_of}
 use Rattle.digits.specs.Layout.{level_low}
 use Rattle.digits.proofs.LayoutCases as cases
-use borrow.Author.Rules.{rules}
 use Rattle.digits.proofs.layout.fit_digits.Goals as goal
 use Rattle.digits.proofs.layout.fit_digits.Goals.{After-level_low}
 

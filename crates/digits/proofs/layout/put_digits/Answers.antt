@@ -4,7 +4,6 @@ use Rattle.octets.specs.Made.{made}
 use Rattle.octets.proofs.MadeBack as back
 use Rattle.digits.specs.Layout.{digits_made}
 use Rattle.digits.proofs.LayoutBack as layout
-use borrow.Author.Rules.{rules}
 use Rattle.digits.proofs.layout.put_digits.Goals as goal
 use Rattle.digits.proofs.layout.put_digits.Goals.{In-Octets}
 

@@ -3,7 +3,6 @@ use mathlib.Core.Path.{sym, ap, ◌∙◌}
 use Rattle.digits.specs.declared.layout.DigitsRead.TheVariants.{Dialled}
 use Rattle.digits.specs.Layout.{windows_wrong}
 use Rattle.digits.proofs.LayoutCases as cases
-use borrow.Author.Rules.{rules}
 use Rattle.digits.proofs.layout.read_digits.Goals as goal
 
 pub returns-then-payload-ne8 : goal.returns-then-payload-ne8

@@ -1,7 +1,6 @@
 -- `hexline::hex::any_other` meets its contract: the flaws of the characters passed are 1 where one of them is another.
-use Rattle.std.proofs.Common.{◌≡◌, ◌-◌, ◌≤◌, cond, eqb, length, take, refl, ap, ◌∙◌, arith, take_all, rules}
+use Rattle.std.proofs.Common.{◌≡◌, ◌-◌, ◌≤◌, cond, length, take}
 use Rattle.hexline.specs.Hex.{any_other}
-use Rattle.hexline.proofs.Characters as characters
 use Rattle.hexline.proofs.hex.any_other.Given as goal
 
 abbrev pub invariant-loop-i : goal.invariant-loop-i

@@ -1,5 +1,4 @@
 -- `hexline::hex::decode` meets its contract: each turn makes one octet of two characters.
-use Rattle.std.proofs.Common.{◌-◌, arith, rules}
 use Rattle.hexline.proofs.Decoding as decoding
 use Rattle.hexline.proofs.hex.decode.Goals as goal
 

@@ -1,5 +1,5 @@
 -- `hexline::hex::decode` meets its contract: each turn makes one octet of two characters.
-use Rattle.std.proofs.Common.{◌-◌, arith, rules}
+use Rattle.std.proofs.Common.{◌-◌}
 use Rattle.hexline.proofs.Decoding as decoding
 use Rattle.hexline.proofs.hex.decode.Given as goal
 

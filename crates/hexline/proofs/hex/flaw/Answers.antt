@@ -1,5 +1,5 @@
 -- `hexline::hex::flaw` meets its contract: a difference from `0` or from `a` that wraps tells the range.
-use Rattle.std.proofs.Common.{arith, rules}
+use Rattle.std.proofs.Common.{arith}
 use Rattle.hexline.proofs.Characters as characters
 use Rattle.hexline.proofs.hex.flaw.Goals as goal
 

@@ -1,5 +1,5 @@
 -- `hexline::hex::octet_of` meets its contract: the values of both characters stand in one number.
-use Rattle.std.proofs.Common.{arith, rules}
+use Rattle.std.proofs.Common.{arith}
 use Rattle.hexline.proofs.Characters as characters
 use Rattle.hexline.proofs.hex.octet_of.Goals as goal
 

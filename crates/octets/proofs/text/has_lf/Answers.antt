@@ -1,8 +1,5 @@
 -- `octets::text::has_lf` meets its contract: what was passed is no LF, so the rest decides.
-use Prim.Native.Nat.{◌≤◌, ◌-◌}
-use mathlib.Core.Path.{◌≡◌, refl, sym, ◌∙◌}
-use lib.ListN.{length, drop}
-use Rattle.octets.specs.Text.{has_lf}
+use mathlib.Core.Path.{sym, ◌∙◌}
 use Rattle.octets.proofs.Texts as values
 use borrow.Author.Rules.{rules}
 use Rattle.octets.proofs.text.has_lf.Goals as goal

@@ -1,10 +1,8 @@
 -- `octets::text::has_lf` meets its contract: what was passed is no LF, so the rest decides.
 use Prim.Native.Nat.{◌≤◌, ◌-◌}
-use mathlib.Core.Path.{◌≡◌, refl, sym, ◌∙◌}
+use mathlib.Core.Path.{◌≡◌}
 use lib.ListN.{length, drop}
 use Rattle.octets.specs.Text.{has_lf}
-use Rattle.octets.proofs.Texts as values
-use borrow.Author.Rules.{rules}
 use Rattle.octets.proofs.text.has_lf.Given as goal
 
 abbrev pub invariant-loop-i : goal.invariant-loop-i

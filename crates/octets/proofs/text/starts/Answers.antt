@@ -1,8 +1,5 @@
 -- `octets::text::starts` meets its contract: what was passed agrees, so the rest decides.
-use Prim.Native.Nat.{◌≤◌, ◌-◌}
-use mathlib.Core.Path.{◌≡◌, refl, sym, ◌∙◌}
-use lib.ListN.{length, drop}
-use Rattle.octets.specs.Text.{starts}
+use mathlib.Core.Path.{sym, ◌∙◌}
 use Rattle.octets.proofs.Texts as values
 use borrow.Author.Rules.{rules}
 use Rattle.octets.proofs.text.starts.Goals as goal

@@ -1,10 +1,8 @@
 -- `octets::text::starts` meets its contract: what was passed agrees, so the rest decides.
 use Prim.Native.Nat.{◌≤◌, ◌-◌}
-use mathlib.Core.Path.{◌≡◌, refl, sym, ◌∙◌}
+use mathlib.Core.Path.{◌≡◌}
 use lib.ListN.{length, drop}
 use Rattle.octets.specs.Text.{starts}
-use Rattle.octets.proofs.Texts as values
-use borrow.Author.Rules.{rules}
 use Rattle.octets.proofs.text.starts.Given as goal
 
 abbrev pub invariant-loop-i : goal.invariant-loop-i

@@ -1,10 +1,8 @@
 -- `provisioning::line::line_at` meets its contract: at each return the tests that led there say which case holds.
 use mathlib.Core.Path.{sym, ap, ◌∙◌}
-use native.Mathlib.Omega.{arith}
 use Rattle.provisioning.specs.declared.line.State.{State}
 use Rattle.provisioning.specs.declared.line.Step.TheVariants.{Goes}
 use Rattle.provisioning.proofs.Lines as lines
-use borrow.Author.Rules.{rules}
 use Rattle.provisioning.proofs.line.line_at.Goals as goal
 
 pub returns-then-not_above : goal.returns-then-not_above

@@ -1,11 +1,8 @@
 -- `provisioning::text::read_text` meets its contract: each turn reads one line, and what stops the loop stops the walk.
-use Prim.Native.Nat.{◌-◌}
 use mathlib.Core.Path.{sym, ap, ◌∙◌}
 use native.Mathlib.Omega.{arith}
-use lib.ListN.{length}
 use Rattle.provisioning.specs.declared.text.TextAnswer.TheVariants.{Taken}
 use Rattle.provisioning.proofs.Turns as turns
-use borrow.Author.Rules.{rules}
 use Rattle.provisioning.proofs.text.read_text.Goals as goal
 
 pub returns-then-text-gt-MOST_OCTETS-clause-says : goal.returns-then-text-gt-MOST_OCTETS-clause-says

@@ -1,11 +1,7 @@
 -- `provisioning::text::read_text` meets its contract: each turn reads one line, and what stops the loop stops the walk.
 use Prim.Native.Nat.{◌-◌}
-use mathlib.Core.Path.{sym, ap, ◌∙◌}
-use native.Mathlib.Omega.{arith}
 use lib.ListN.{length}
-use Rattle.provisioning.specs.declared.text.TextAnswer.TheVariants.{Taken}
 use Rattle.provisioning.proofs.Turns as turns
-use borrow.Author.Rules.{rules}
 use Rattle.provisioning.proofs.text.read_text.Given as goal
 
 abbrev pub invariant-loop-at : goal.invariant-loop-at

@@ -1,6 +1,5 @@
 -- `record::syntax::listed_at` meets its contract.
 use Rattle.record.specs.Record.{syntax_at}
-use Rattle.record.proofs.Places as places
 use Rattle.record.proofs.syntax.listed_at.Goals as goal
 
 pub returns-in-1 : goal.returns-in-1

@@ -1,7 +1,6 @@
 -- `record::syntax::pairs` meets its contract: each mask, held against the listed pairs.
 use Rattle.record.specs.declared.syntax.Syntax.TheVariants.{Acelp, Pcm, G727, G728, G7231, Data, Fax}
 use Rattle.record.proofs.Listed as listed
-use borrow.Author.Rules.{rules}
 use Rattle.record.proofs.syntax.pairs.Goals as goal
 
 pub returns-in-Acelp : goal.returns-in-Acelp

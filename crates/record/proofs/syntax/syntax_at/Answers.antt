@@ -1,6 +1,5 @@
 -- `record::syntax::syntax_at` meets its contract.
 use mathlib.Core.Path.{sym, ◌∙◌}
-use borrow.Author.Rules.{rules}
 use Rattle.record.proofs.Places as places
 use Rattle.record.proofs.syntax.syntax_at.Goals as goal
 

@@ -1,8 +1,5 @@
 -- `record::table::pack` meets its contract.
-use native.Mathlib.Omega.{arith}
-use borrow.Author.Rules.{rules}
 use Rattle.record.specs.Record.{packed}
-use Rattle.record.proofs.Packing as packing
 use Rattle.record.proofs.table.pack.Goals as goal
 
 pub returns : goal.returns

@@ -1,6 +1,5 @@
 -- `record::table::record_of` meets its contract.
 use mathlib.Core.Path.{sym, ◌∙◌}
-use borrow.Author.Rules.{rules}
 use Rattle.record.proofs.Packing as packing
 use Rattle.record.proofs.table.record_of.Goals as goal
 

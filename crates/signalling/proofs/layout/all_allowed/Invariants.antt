@@ -1,11 +1,7 @@
 -- `signalling::layout::all_allowed` meets its contract.
 use Prim.Native.Nat.{◌-◌, ◌≤◌}
-use mathlib.Core.Path.{◌≡◌, refl, sym, ◌∙◌}
-use native.Mathlib.Omega.{arith}
-use borrow.Author.Rules.{rules}
-use borrow.Author.Tests.{not-true, not-false}
+use mathlib.Core.Path.{◌≡◌}
 use Rattle.signalling.specs.Layout.{all_allowed}
-use Rattle.signalling.proofs.Samples as samples-of
 use Rattle.signalling.proofs.layout.all_allowed.Given as goal
 
 abbrev pub invariant-loop-i : goal.invariant-loop-i

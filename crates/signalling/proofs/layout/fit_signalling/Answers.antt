@@ -6,7 +6,6 @@ use Rattle.octets.specs.declared.Fit.TheVariants.{Octets}
 use Rattle.octets.specs.Made.{fit_of}
 use Rattle.signalling.proofs.LayoutCases as cases
 use Rattle.signalling.proofs.LayoutBack.{length_pairs}
-use borrow.Author.Rules.{rules}
 use Rattle.signalling.proofs.layout.fit_signalling.Goals as goal
 
 pub returns-then-signalling-gt127 : goal.returns-then-signalling-gt127

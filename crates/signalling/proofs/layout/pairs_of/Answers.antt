@@ -1,10 +1,7 @@
 -- `signalling::layout::pairs_of` meets its contract: after i turns i octets of two samples each stand in their places.
-use Prim.Native.Nat.{ℕ, ◌+◌, ◌-◌, ◌<◌, ◌≤◌}
-use mathlib.Core.Path.{◌≡◌}
+use Prim.Native.Nat.{ℕ, ◌+◌, ◌<◌}
 use native.Mathlib.Omega.{arith}
-use lib.ListN.{get_or, replicate}
-use lib.Seq.{paste, paste-zero}
-use Rattle.signalling.specs.Layout.{pairs}
+use lib.ListN.{get_or}
 use Rattle.signalling.proofs.LayoutBack as layout
 use Rattle.signalling.proofs.layout.pairs_of.Goals as goal
 use Rattle.signalling.proofs.layout.pairs_of.Goals.{Start}

@@ -1,11 +1,9 @@
 -- `signalling::layout::pairs_of` meets its contract: after i turns i octets of two samples each stand in their places.
-use Prim.Native.Nat.{ℕ, ◌+◌, ◌-◌, ◌<◌, ◌≤◌}
+use Prim.Native.Nat.{◌-◌, ◌≤◌}
 use mathlib.Core.Path.{◌≡◌}
-use native.Mathlib.Omega.{arith}
-use lib.ListN.{get_or, replicate}
-use lib.Seq.{paste, paste-zero}
+use lib.ListN.{replicate}
+use lib.Seq.{paste}
 use Rattle.signalling.specs.Layout.{pairs}
-use Rattle.signalling.proofs.LayoutBack as layout
 use Rattle.signalling.proofs.layout.pairs_of.Given as goal
 
 abbrev pub invariant-loop-i : goal.invariant-loop-i

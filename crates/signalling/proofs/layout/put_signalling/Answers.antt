@@ -6,7 +6,6 @@ use Rattle.octets.specs.Made.{made}
 use Rattle.octets.proofs.MadeBack as back
 use Rattle.signalling.specs.Layout.{signalling_made}
 use Rattle.signalling.proofs.LayoutBack as layout
-use borrow.Author.Rules.{rules}
 use Rattle.signalling.proofs.layout.put_signalling.Goals as goal
 use Rattle.signalling.proofs.layout.put_signalling.Goals.{In-Octets}
 

@@ -1,7 +1,6 @@
 -- `signalling::layout::read_signalling` meets its contract.
 use mathlib.Core.Path.{sym}
 use Rattle.signalling.proofs.LayoutCases as cases
-use borrow.Author.Rules.{rules}
 use Rattle.signalling.proofs.layout.read_signalling.Goals as goal
 
 pub returns-then-payload-eq16 : goal.returns-then-payload-eq16

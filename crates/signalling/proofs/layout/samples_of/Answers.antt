@@ -1,10 +1,5 @@
 -- `signalling::layout::samples_of` meets its contract: after i turns the samples of i octets stand in their places.
-use Prim.Native.Nat.{◌+◌, ◌-◌, ◌≤◌}
-use mathlib.Core.Path.{◌≡◌}
 use native.Mathlib.Omega.{arith}
-use lib.ListN.{drop, replicate}
-use lib.Seq.{paste}
-use Rattle.signalling.specs.Layout.{halves}
 use Rattle.signalling.proofs.Halves as halves_of
 use Rattle.signalling.proofs.layout.samples_of.Goals as goal
 
