@@ -21,9 +21,9 @@ loop-at-smaller c = omega (arith, walks.within _ _ c.loop-at.invariant.0 c.loop-
 
 pub loop-at-preserved : goal.loop-at-preserved
 loop-at-preserved c = (
-      turns.turn c.args.table.now c.args.cid c.loop-at.invariant.0 c.loop-at-test.true c.loop-at.frame c.take_line-line.result c.take_line-line.ensures.says (omega (arith, c.loop-at.invariant.1)) c.if-out-used-lt-MOST_FOLLOWED.false c.take_line-line.ensures.keeps c.take_line-line.ensures.holds c.put_taken-shown.ensures,
-      omega (arith, c.take_line-line.auto.frame, c.loop-at.invariant.1),
-    )
+  turns.turn c.args.table.now c.args.cid c.loop-at.invariant.0 c.loop-at-test.true c.loop-at.frame c.take_line-line.result c.take_line-line.ensures.says (omega (arith, c.loop-at.invariant.1)) c.if-out-used-lt-MOST_FOLLOWED.false c.take_line-line.ensures.keeps c.take_line-line.ensures.holds c.put_taken-shown.ensures,
+  omega (arith, c.take_line-line.auto.frame, c.loop-at.invariant.1),
+)
 
 pub returns : goal.returns
 returns c = let both = turns.promised (walks.all _ _ c.loop-at.invariant.0 c.loop-at-test.false) in record { says = both.0; keeps = both.1.0; holds = both.1.1 }
