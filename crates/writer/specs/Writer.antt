@@ -1,7 +1,6 @@
 -- The writer (document 01, "Refusal numbers"): "The writer takes one sub-frame at a time, each told last or not. Its order: 24,
 -- 4, 11 to 16, 22, 23, 21; 21 exactly when header and payload exceed the room left."
-use Rattle.std.specs.Prelude.{ℕ, ◌+◌, List, [], ◌++◌, Bool, length}
-use Rattle.refusal.specs.Order.{◌or◌}
+use Rattle.std.specs.Prelude.{ℕ, List, [], ◌++◌, Bool, length}
 use Rattle.octets.specs.declared.Fit.{Fit}
 use Rattle.octets.specs.Made.{Made, made, unmade, fit_of}
 use Rattle.octets.specs.Room.{written}

@@ -3,7 +3,6 @@ use native.Mathlib.Omega.{arith}
 use Rattle.octets.specs.Text.{ascii}
 use Rattle.printing.proofs.Appending as appending
 use Rattle.following.specs.Following.{did_lines}
-use borrow.Author.Rules.{rules}
 use Rattle.following.proofs.faxed.put_began.Goals as goal
 
 pub returns : goal.returns

@@ -3,7 +3,6 @@ use native.Mathlib.Omega.{arith}
 use Rattle.octets.specs.Text.{ascii}
 use Rattle.printing.proofs.Appending as appending
 use Rattle.following.specs.Following.{did_lines}
-use borrow.Author.Rules.{rules}
 use Rattle.following.proofs.faxed.put_did.Goals as goal
 
 pub returns-in-Nothing : goal.returns-in-Nothing

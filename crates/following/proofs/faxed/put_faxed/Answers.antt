@@ -3,7 +3,6 @@ use native.Mathlib.Omega.{arith}
 use Rattle.octets.specs.Text.{ascii}
 use Rattle.printing.proofs.Appending as appending
 use Rattle.following.specs.Following.{faxed_lines}
-use borrow.Author.Rules.{rules}
 use Rattle.following.proofs.faxed.put_faxed.Goals as goal
 
 pub put_page-past_octets-requires-clause-at_in_bounds : goal.put_page-past_octets-requires-clause-at_in_bounds

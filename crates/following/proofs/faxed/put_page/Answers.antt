@@ -1,6 +1,6 @@
 -- `following::faxed::put_page` meets its contract: the octets that are handed on.
 use Prim.Native.Nat.{ℕ, min, ◌≤◌}
-use mathlib.Core.Path.{◌≡◌, ap, sym, ◌∙◌}
+use mathlib.Core.Path.{◌≡◌, ap, ◌∙◌}
 use native.Mathlib.Omega.{arith}
 use lib.ListN.{length, take}
 use lib.Seq.{length-take-le}
@@ -8,7 +8,6 @@ use Rattle.octets.specs.Text.{ascii}
 use Rattle.printing.proofs.Appending as appending
 use Rattle.following.specs.Following.{page_line}
 use Rattle.following.proofs.Lines as lines
-use borrow.Author.Rules.{rules}
 use Rattle.following.proofs.faxed.put_page.Goals as goal
 
 pub returns : goal.returns

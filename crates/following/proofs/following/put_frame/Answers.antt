@@ -1,6 +1,5 @@
 -- `following::following::put_frame` meets its contract: the sub-frames of a sound frame, or the refusal.
 use Rattle.following.proofs.Turns as turns
-use borrow.Author.Rules.{rules}
 use Rattle.following.proofs.following.put_frame.Goals as goal
 
 pub returns-then-number-eq-SOUND : goal.returns-then-number-eq-SOUND

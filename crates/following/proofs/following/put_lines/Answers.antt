@@ -3,7 +3,6 @@ use native.Mathlib.Omega.{arith}
 use Rattle.octets.specs.Text.{ascii}
 use Rattle.printing.proofs.Appending as appending
 use Rattle.following.specs.Following.{sub_lines}
-use borrow.Author.Rules.{rules}
 use Rattle.following.proofs.following.put_lines.Goals as goal
 
 pub put_heard-requires : goal.put_heard-requires

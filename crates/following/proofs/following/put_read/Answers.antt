@@ -1,10 +1,5 @@
 -- `following::following::put_read` meets its contract: the frame, or the refusal of the line.
-use mathlib.Core.Path.{sym}
-use native.Mathlib.Omega.{arith}
-use lib.ListN.{length-take}
-use lib.Seq.{length-take-le}
 use Rattle.following.proofs.Turns as turns
-use borrow.Author.Rules.{rules}
 use Rattle.following.proofs.following.put_read.Goals as goal
 
 pub returns : goal.returns

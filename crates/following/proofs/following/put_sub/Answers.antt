@@ -1,6 +1,5 @@
 -- `following::following::put_sub` meets its contract: of another sub-channel nothing; else what the trunk tells.
 use Rattle.following.proofs.Turns as turns
-use borrow.Author.Rules.{rules}
 use Rattle.following.proofs.following.put_sub.Goals as goal
 
 pub returns-then-sub-cid : goal.returns-then-sub-cid

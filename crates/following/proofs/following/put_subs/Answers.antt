@@ -1,8 +1,7 @@
 -- `following::following::put_subs` meets its contract: each turn puts the sub-frame whose header is next.
-use Prim.Native.Nat.{◌-◌, ◌<◌}
+use Prim.Native.Nat.{◌<◌}
 use native.Mathlib.Omega.{arith}
 use lib.ListN.{length}
-use borrow.Author.Rules.{rules}
 use Rattle.frame.specs.Opening.{opening}
 use Rattle.following.proofs.Turns as turns
 use Rattle.following.proofs.following.put_subs.Goals as goal

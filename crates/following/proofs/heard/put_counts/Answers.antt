@@ -3,7 +3,6 @@ use native.Mathlib.Omega.{arith}
 use Rattle.octets.specs.Text.{ascii}
 use Rattle.printing.proofs.Appending as appending
 use Rattle.following.specs.Following.{count_lines}
-use borrow.Author.Rules.{rules}
 use Rattle.following.proofs.heard.put_counts.Goals as goal
 
 pub returns : goal.returns

@@ -1,7 +1,6 @@
 -- `following::heard::put_dialled` meets its contract: the counts, then the periods that are carried.
 use native.Mathlib.Omega.{arith}
 use Rattle.following.proofs.Lines as lines
-use borrow.Author.Rules.{rules}
 use Rattle.following.proofs.heard.put_dialled.Goals as goal
 
 pub returns : goal.returns

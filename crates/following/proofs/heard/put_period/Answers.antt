@@ -2,7 +2,6 @@
 use native.Mathlib.Omega.{arith}
 use Rattle.octets.specs.Text.{ascii}
 use Rattle.printing.proofs.Appending as appending
-use borrow.Author.Rules.{rules}
 use Rattle.following.proofs.heard.put_period.Goals as goal
 
 pub returns-then-shown : goal.returns-then-shown

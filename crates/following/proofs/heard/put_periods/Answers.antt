@@ -2,7 +2,6 @@
 use native.Mathlib.Omega.{arith}
 use Rattle.printing.proofs.Appending as appending
 use Rattle.following.proofs.Lines as lines
-use borrow.Author.Rules.{rules}
 use Rattle.following.proofs.heard.put_periods.Goals as goal
 
 pub returns : goal.returns

@@ -1,14 +1,7 @@
 -- `following::stream::follow_last` meets its contract: the line that is kept, where there is one and the room is there.
-use Prim.Native.Nat.{◌≤◌}
-use mathlib.Core.Path.{sym, ap}
 use native.Mathlib.Omega.{arith}
-use lib.ListN.{replicate, take}
-use lib.Seq.{length-take-le}
-use Rattle.hexline.specs.declared.Read.{Read}
-use Rattle.hexline.specs.Line.{line_read}
-use Rattle.hexline.proofs.LineCases as cases
+use lib.ListN.{replicate}
 use Rattle.following.proofs.StreamTurns as turns
-use borrow.Author.Rules.{rules}
 use Rattle.following.proofs.stream.follow_last.Goals as goal
 
 pub returns-then-have-eq0 : goal.returns-then-have-eq0

@@ -1,11 +1,7 @@
 -- `following::stream::follow_piece` meets its contract: each turn takes a line, or what the piece has of it.
 use Prim.Native.Nat.{◌-◌}
-use mathlib.Core.Path.{◌≡◌, refl, sym}
-use native.Mathlib.Omega.{arith}
+use mathlib.Core.Path.{◌≡◌}
 use lib.ListN.{length}
-use borrow.Author.Rules.{rules}
-use Rattle.recording.proofs.Walks as walks
-use Rattle.following.specs.Following.{line_following}
 use Rattle.following.specs.Stream.{piece_followed}
 use Rattle.following.proofs.StreamTurns as turns
 use Rattle.following.proofs.stream.follow_piece.Given as goal

@@ -1,14 +1,8 @@
 -- `listing::listing::list_line` meets its contract: where the room is there, what the line holds is listed.
-use Prim.Native.Nat.{◌≤◌}
-use mathlib.Core.Path.{ap}
 use native.Mathlib.Omega.{arith}
 use lib.ListN.{replicate}
-use borrow.Author.Rules.{rules}
-use Rattle.hexline.specs.declared.Read.{Read}
-use Rattle.hexline.specs.Line.{line_read}
 use Rattle.printing.proofs.Appending as appending
 use Rattle.listing.proofs.Listings as listings
-use Rattle.hexline.proofs.LineCases as cases
 use Rattle.listing.proofs.listing.list_line.Goals as goal
 
 pub returns-then-exceeds : goal.returns-then-exceeds

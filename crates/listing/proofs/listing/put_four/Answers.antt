@@ -1,6 +1,5 @@
 -- `listing::listing::put_four` meets its contract: four fields, one behind the other.
 use native.Mathlib.Omega.{arith}
-use borrow.Author.Rules.{rules}
 use Rattle.octets.specs.Text.{ascii}
 use Rattle.printing.proofs.Appending as appending
 use Rattle.listing.specs.Listing.{four_fields}

@@ -1,6 +1,5 @@
 -- `listing::listing::put_frame` meets its contract: the fields of a sound frame, or of a refused one.
 use native.Mathlib.Omega.{arith}
-use borrow.Author.Rules.{rules}
 use Rattle.octets.specs.Text.{ascii}
 use Rattle.printing.proofs.Appending as appending
 use Rattle.listing.proofs.Listings as listings

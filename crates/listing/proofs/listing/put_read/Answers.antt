@@ -1,9 +1,5 @@
 -- `listing::listing::put_read` meets its contract: the frame, or the refusal of the line.
-use mathlib.Core.Path.{sym}
 use native.Mathlib.Omega.{arith}
-use lib.ListN.{length-take}
-use lib.Seq.{length-take-le}
-use borrow.Author.Rules.{rules}
 use Rattle.printing.proofs.Appending as appending
 use Rattle.listing.proofs.Listings as listings
 use Rattle.listing.proofs.listing.put_read.Goals as goal

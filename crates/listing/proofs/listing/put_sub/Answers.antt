@@ -1,5 +1,4 @@
 -- `listing::listing::put_sub` meets its contract: the number of its payload, and four fields.
-use borrow.Author.Rules.{rules}
 use Rattle.listing.proofs.Listings as listings
 use Rattle.listing.proofs.listing.put_sub.Goals as goal
 

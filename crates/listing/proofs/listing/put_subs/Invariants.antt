@@ -1,9 +1,5 @@
 -- `listing::listing::put_subs` meets its contract: each turn puts the sub-frame whose header is next.
-use Prim.Native.Nat.{◌-◌, ◌<◌}
-use native.Mathlib.Omega.{arith}
-use lib.ListN.{length}
-use borrow.Author.Rules.{rules}
-use Rattle.frame.specs.Opening.{opening}
+use Prim.Native.Nat.{◌-◌}
 use Rattle.listing.proofs.SubsTurns as turns
 use Rattle.listing.proofs.listing.put_subs.Given as goal
 

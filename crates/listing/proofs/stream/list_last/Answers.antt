@@ -1,8 +1,4 @@
 -- `listing::stream::list_last` meets its contract: the line that is kept, where there is one and the room is there.
-use mathlib.Core.Path.{sym}
-use native.Mathlib.Omega.{arith}
-use lib.Seq.{length-take-le}
-use borrow.Author.Rules.{rules}
 use Rattle.listing.proofs.StreamTurns as turns
 use Rattle.listing.proofs.stream.list_last.Goals as goal
 

@@ -1,11 +1,7 @@
 -- `listing::stream::list_piece` meets its contract: each turn takes a line, or what the piece has of it.
 use Prim.Native.Nat.{◌-◌}
-use mathlib.Core.Path.{◌≡◌, refl, sym}
-use native.Mathlib.Omega.{arith}
+use mathlib.Core.Path.{◌≡◌}
 use lib.ListN.{length}
-use borrow.Author.Rules.{rules}
-use Rattle.recording.proofs.Walks as walks
-use Rattle.listing.specs.Listing.{tell_line}
 use Rattle.listing.specs.Stream.{piece_listed}
 use Rattle.listing.proofs.StreamTurns as turns
 use Rattle.listing.proofs.stream.list_piece.Given as goal

@@ -1,5 +1,5 @@
 -- `lists::body::fill` is safe and ends: the room keeps its length.
-use Rattle.std.proofs.Common.{◌≡◌, ◌-◌, ◌≤◌, length, rules}
+use Rattle.std.proofs.Common.{◌≡◌, ◌-◌, ◌≤◌, length}
 use Rattle.lists.proofs.body.fill.Given as goal
 
 abbrev pub invariant-loop-i : goal.invariant-loop-i

@@ -1,5 +1,5 @@
 -- `lists::list::taking` is safe and ends.
-use Rattle.std.proofs.Common.{◌≤◌, rules}
+use Rattle.std.proofs.Common.{◌≤◌}
 use Rattle.lists.proofs.list.taking.Given as goal
 
 abbrev pub invariant-loop-left : goal.invariant-loop-left

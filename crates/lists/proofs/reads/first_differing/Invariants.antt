@@ -1,5 +1,5 @@
 -- `lists::reads::first_differing` is safe and ends.
-use Rattle.std.proofs.Common.{◌-◌, ◌≤◌, rules}
+use Rattle.std.proofs.Common.{◌-◌, ◌≤◌}
 use Rattle.lists.proofs.reads.first_differing.Given as goal
 
 abbrev pub invariant-loop-i : goal.invariant-loop-i

@@ -1,5 +1,5 @@
 -- `lists::writes::write_list` is safe and ends: the lent frame keeps its length.
-use Rattle.std.proofs.Common.{◌≡◌, length, rules}
+use Rattle.std.proofs.Common.{◌≡◌, length}
 use Rattle.lists.proofs.writes.write_list.Given as goal
 
 abbrev pub invariant-loop-left : goal.invariant-loop-left

@@ -1,5 +1,4 @@
 -- `rows::items::walk` is safe and ends.
-use Rattle.std.proofs.Common.{rules}
 use Rattle.rows.proofs.items.walk.Given as goal
 
 abbrev pub invariant-loop-walk : goal.invariant-loop-walk

@@ -1,6 +1,6 @@
 -- `rows::reads::read` is safe and ends: after the check, so many sub-frames are left as it counted.
-use Rattle.std.proofs.Common.{arith, rules}
-use Rattle.rows.proofs.Walking.{Left, begins, met}
+use Rattle.std.proofs.Common.{arith}
+use Rattle.rows.proofs.Walking.{begins, met}
 use Rattle.rows.proofs.reads.read.Goals as goal
 
 pub loop-left-init : goal.loop-left-init

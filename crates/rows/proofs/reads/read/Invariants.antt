@@ -1,6 +1,5 @@
 -- `rows::reads::read` is safe and ends: after the check, so many sub-frames are left as it counted.
-use Rattle.std.proofs.Common.{arith, rules}
-use Rattle.rows.proofs.Walking.{Left, begins, met}
+use Rattle.rows.proofs.Walking.{Left}
 use Rattle.rows.proofs.reads.read.Given as goal
 
 abbrev pub invariant-loop-left : goal.invariant-loop-left

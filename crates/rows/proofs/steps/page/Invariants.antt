@@ -1,5 +1,5 @@
 -- `rows::steps::page` is safe and ends.
-use Rattle.std.proofs.Common.{◌-◌, ◌≤◌, length, arith, rules}
+use Rattle.std.proofs.Common.{◌-◌, ◌≤◌, length}
 use Rattle.rows.proofs.steps.page.Given as goal
 
 abbrev pub invariant-loop-i : goal.invariant-loop-i

@@ -1,5 +1,4 @@
 -- `rows::steps::receive_fax` is safe and ends.
-use Rattle.std.proofs.Common.{rules}
 use Rattle.rows.proofs.steps.receive_fax.Given as goal
 
 abbrev pub invariant-loop-walk : goal.invariant-loop-walk

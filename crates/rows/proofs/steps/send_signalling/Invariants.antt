@@ -1,5 +1,4 @@
 -- `rows::steps::send_signalling` is safe and ends.
-use Rattle.std.proofs.Common.{rules}
 use Rattle.rows.proofs.steps.send_signalling.Given as goal
 
 abbrev pub invariant-loop-walk : goal.invariant-loop-walk

@@ -1,5 +1,5 @@
 -- `rows::texts::places` is safe and ends.
-use Rattle.std.proofs.Common.{◌-◌, arith, rules}
+use Rattle.std.proofs.Common.{◌-◌}
 use Rattle.rows.proofs.texts.places.Given as goal
 
 abbrev pub invariant-loop-cid : goal.invariant-loop-cid

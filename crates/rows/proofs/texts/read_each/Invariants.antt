@@ -1,5 +1,4 @@
 -- `rows::texts::read_each` is safe and ends.
-use Rattle.std.proofs.Common.{rules}
 use Rattle.rows.proofs.texts.read_each.Given as goal
 
 abbrev pub invariant-loop-walk : goal.invariant-loop-walk

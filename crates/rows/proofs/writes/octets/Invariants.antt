@@ -1,5 +1,5 @@
 -- `rows::writes::octets` is safe and ends.
-use Rattle.std.proofs.Common.{◌-◌, length, arith, rules}
+use Rattle.std.proofs.Common.{◌-◌, length}
 use Rattle.rows.proofs.writes.octets.Given as goal
 
 abbrev pub invariant-loop-i : goal.invariant-loop-i

@@ -1,5 +1,5 @@
 -- `rows::writes::write_each` is safe and ends.
-use Rattle.std.proofs.Common.{◌≡◌, length, rules}
+use Rattle.std.proofs.Common.{◌≡◌, length}
 use Rattle.rows.proofs.writes.write_each.Given as goal
 
 abbrev pub invariant-loop-walk : goal.invariant-loop-walk

@@ -1,9 +1,7 @@
 -- `unit::write::cleared` is safe and ends, and leaves as many octets.
 use Prim.Native.Nat.{◌-◌}
 use mathlib.Core.Path.{◌≡◌}
-use native.Mathlib.Omega.{arith}
-use lib.ListN.{length, length-set}
-use borrow.Author.Rules.{rules}
+use lib.ListN.{length}
 use Rattle.unit.proofs.write.cleared.Given as goal
 
 abbrev pub invariant-loop-i : goal.invariant-loop-i

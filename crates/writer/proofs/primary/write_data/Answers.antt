@@ -1,5 +1,4 @@
 -- `writer::primary::write_data` meets its contract.
-use borrow.Author.Rules.{rules}
 use Rattle.payload.specs.Content.{fragment}
 use Rattle.writer.specs.Answers.{primary}
 use Rattle.writer.proofs.WriteCases as cases

@@ -1,5 +1,4 @@
 -- `writer::primary::write_voice` meets its contract.
-use borrow.Author.Rules.{rules}
 use Rattle.payload.specs.Content.{speech}
 use Rattle.writer.specs.Answers.{primary}
 use Rattle.writer.proofs.WriteCases as cases

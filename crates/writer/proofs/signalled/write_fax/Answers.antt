@@ -1,5 +1,4 @@
 -- `writer::signalled::write_fax` meets its contract.
-use borrow.Author.Rules.{rules}
 use Rattle.payload.specs.Content.{faxed}
 use Rattle.writer.specs.Answers.{signalled}
 use Rattle.writer.proofs.WriteCases as cases

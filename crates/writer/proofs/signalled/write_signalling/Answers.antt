@@ -1,5 +1,4 @@
 -- `writer::signalled::write_signalling` meets its contract.
-use borrow.Author.Rules.{rules}
 use Rattle.payload.specs.Content.{seized}
 use Rattle.writer.specs.Answers.{signalled}
 use Rattle.writer.proofs.WriteCases as cases
