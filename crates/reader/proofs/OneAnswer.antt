@@ -1,5 +1,5 @@
--- One answer only, for the functions over a reader: the fact that each contract states, and that it has one answer. The functions
--- with plain parameters have their theorems in crate `settled`, as any other's.
+-- One answer only, for the functions over a reader: the fact that each contract states, and that it has one answer. Crate `settled` has
+-- their theorems over the contracts too, beside those of the functions with plain parameters.
 use Prim.Native.Nat.{ℕ}
 use mathlib.Core.Path.{◌≡◌, refl, sym, ◌∙◌}
 use mathlib.Core.List.{List}

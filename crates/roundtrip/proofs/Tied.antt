@@ -37,7 +37,7 @@ use Rattle.place.proofs.fresh.Reads as fresh-reads
 use Rattle.writer.proofs.primary.write_voice.Kinds as voice-kinds
 use Rattle.writer.proofs.primary.write_voice.Reads as voice-reads
 use Rattle.writer.proofs.primary.write_data.Kinds as data-kinds
-use Rattle.writer.proofs.primary.write_data.Reads as data_Reads
+use Rattle.writer.proofs.primary.write_data.Reads as data-reads
 use Rattle.writer.proofs.signalled.write_digits.Kinds as digits-kinds
 use Rattle.writer.proofs.signalled.write_digits.Reads as digits-reads
 use Rattle.writer.proofs.signalled.write_signalling.Kinds as signalling-kinds
@@ -112,7 +112,7 @@ signalled-back h x left is leaves = ap₂ (λ (a : Answer) (l : List ℕ). recor
 
 called : (h : Handed) (back : Back) → Call h back → back ≡ back_of h
 called h back (by_voice m) = comes_of 3 voice-kinds.ps voice-kinds.r voice-reads.Post to_voice _ back_of (λ κs a x s p. primary-back (to_voice κs a) x s.0.now p.0 p.1) h back m
-called h back (by_data m) = comes_of 3 data-kinds.ps data-kinds.r data_Reads.Post to_data _ back_of (λ κs a x s p. primary-back (to_data κs a) x s.0.now p.0 p.1) h back m
+called h back (by_data m) = comes_of 3 data-kinds.ps data-kinds.r data-reads.Post to_data _ back_of (λ κs a x s p. primary-back (to_data κs a) x s.0.now p.0 p.1) h back m
 called h back (by_digits m) = comes_of 2 digits-kinds.ps digits-kinds.r digits-reads.Post to_digits _ back_of (λ κs a x s p. signalled-back (to_digits κs a) x s.0.now p.0 p.1) h back m
 called h back (by_signalling m) = comes_of 2 signalling-kinds.ps signalling-kinds.r signalling-reads.Post to_signalling _ back_of (λ κs a x s p. signalled-back (to_signalling κs a) x s.0.now p.0 p.1) h back m
 called h back (by_fax m) = comes_of 3 fax-kinds.ps fax-kinds.r fax-reads.Post to_fax _ back_of (λ κs a x s p. signalled-back (to_fax κs a) x s.0.now p.0 p.1) h back m

@@ -37,7 +37,7 @@ use Rattle.place.proofs.fresh.Reads as fresh-reads
 use Rattle.writer.proofs.primary.write_voice.Kinds as voice-kinds
 use Rattle.writer.proofs.primary.write_voice.Reads as voice-reads
 use Rattle.writer.proofs.primary.write_data.Kinds as data-kinds
-use Rattle.writer.proofs.primary.write_data.Reads as data_Reads
+use Rattle.writer.proofs.primary.write_data.Reads as data-reads
 use Rattle.writer.proofs.signalled.write_digits.Kinds as digits-kinds
 use Rattle.writer.proofs.signalled.write_digits.Reads as digits-reads
 use Rattle.writer.proofs.signalled.write_signalling.Kinds as signalling-kinds
@@ -113,8 +113,8 @@ pub record Tied : Type 0 where
   pub fresh : Answers 0 fresh-kinds.ps fresh-kinds.r (λ κs a. fresh_writer) fresh-reads.Post
   pub voice : Answers 3 voice-kinds.ps voice-kinds.r (λ κs a. primary (does (to_voice κs a))) voice-reads.Post
   pub voice_left : Leaves 3 voice-kinds.ps voice-kinds.r (λ κs s. s.0.now) (λ κs a. left_of (to_voice κs a)) voice-reads.Post
-  pub fragments : Answers 3 data-kinds.ps data-kinds.r (λ κs a. primary (does (to_data κs a))) data_Reads.Post
-  pub fragments_left : Leaves 3 data-kinds.ps data-kinds.r (λ κs s. s.0.now) (λ κs a. left_of (to_data κs a)) data_Reads.Post
+  pub fragments : Answers 3 data-kinds.ps data-kinds.r (λ κs a. primary (does (to_data κs a))) data-reads.Post
+  pub fragments_left : Leaves 3 data-kinds.ps data-kinds.r (λ κs s. s.0.now) (λ κs a. left_of (to_data κs a)) data-reads.Post
   pub digits : Answers 2 digits-kinds.ps digits-kinds.r (λ κs a. signalled (does (to_digits κs a))) digits-reads.Post
   pub digits_left : Leaves 2 digits-kinds.ps digits-kinds.r (λ κs s. s.0.now) (λ κs a. left_of (to_digits κs a)) digits-reads.Post
   pub signalling : Answers 2 signalling-kinds.ps signalling-kinds.r (λ κs a. signalled (does (to_signalling κs a))) signalling-reads.Post
@@ -159,7 +159,7 @@ pub record Back : Type 0 where
 -- A call of one of the six, handed this, of which that comes, and which meets its contract.
 pub data Call (h : Handed) (back : Back) : Type 0 where
   by_voice : Met 3 voice-kinds.ps voice-kinds.r voice-reads.Post to_voice (λ κs x s. record { answer = of_primary x; left = s.0.now }) h back → Call h back
-  by_data : Met 3 data-kinds.ps data-kinds.r data_Reads.Post to_data (λ κs x s. record { answer = of_primary x; left = s.0.now }) h back → Call h back
+  by_data : Met 3 data-kinds.ps data-kinds.r data-reads.Post to_data (λ κs x s. record { answer = of_primary x; left = s.0.now }) h back → Call h back
   by_digits : Met 2 digits-kinds.ps digits-kinds.r digits-reads.Post to_digits (λ κs x s. record { answer = of_signalled x; left = s.0.now }) h back → Call h back
   by_signalling : Met 2 signalling-kinds.ps signalling-kinds.r signalling-reads.Post to_signalling (λ κs x s. record { answer = of_signalled x; left = s.0.now }) h back → Call h back
   by_fax : Met 3 fax-kinds.ps fax-kinds.r fax-reads.Post to_fax (λ κs x s. record { answer = of_signalled x; left = s.0.now }) h back → Call h back
