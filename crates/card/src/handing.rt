@@ -30,6 +30,7 @@ pub enum Handed {
 }
 
 // Whether a sub-frame is a type 0 payload on the sub-channel, whose voice record this is, that passes its checks.
+#[tactic(auto, unfolding(crate::specs::Handing::serves))]
 fn serves(frame: &[u8], rec: Record, cid: u8, sub: SubFrame) -> bool
     requires sub_in_bounds { end_of sub ≤ length frame.now }
     requires syntax_value { family_of rec.syntax ≡ VoiceFamily }

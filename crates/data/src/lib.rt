@@ -24,6 +24,7 @@ pub enum DataRead {
 }
 
 // Reads a data payload.
+#[tactic(auto, unfolding(crate::specs::Data::data_read))]
 pub fn read_data(payload: &[u8]) -> DataRead
     ensures { result ≡ data_read payload.now }
 {

@@ -50,6 +50,7 @@ pub enum FaxRead {
 }
 
 // Document 01's numbers of data octets: 3, and 12 to 72 in steps of 12.
+#[tactic(auto, unfolding(crate::specs::Fax::is_page))]
 fn is_page(octets: usize) -> bool
     ensures { result ≡ is_page octets }
 {
@@ -79,6 +80,7 @@ fn body_fits(command: Command, octets: usize) -> bool
 }
 
 // A modulation that is no code of the table, or a frequency beside another modulation than the single tone, 0.
+#[tactic(auto, unfolding(crate::specs::Fax::tone_refused))]
 fn tone_refused(modulation: u8, frequency: u16) -> bool
     ensures { result ≡ tone_refused modulation frequency }
 {

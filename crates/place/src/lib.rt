@@ -100,6 +100,7 @@ fn full(writer: Writer, header: usize, len: usize) -> bool
 }
 
 // 22, 23, 21: where a payload of so many octets begins, behind its header, and the writer after it.
+#[tactic(auto, unfolding(crate::specs::Place::placed))]
 fn place(room: usize, writer: Writer, last: bool, cid: u8, ptype: u8, len: usize) -> Entered
     ensures { result ≡ placed room writer last cid ptype len }
 {

@@ -31,6 +31,7 @@ pub struct Reader<'a> {
 }
 
 // Where a reader of a frame begins: before the first sub-frame of a sound frame, at the end of any other.
+#[tactic(auto, unfolding(crate::specs::Reading::start_of))]
 fn start(frame: &[u8]) -> usize
     ensures { result ≡ start_of frame.now }
 {

@@ -31,6 +31,7 @@ fn digit_of(octet: u8) -> u16
 }
 
 // The number that four octets start with: one to three digits, no leading zero, then LF.
+#[tactic(auto, unfolding(crate::specs::Value::number_by, crate::specs::Value::second_digit, crate::specs::Value::third_digit))]
 fn number_by(first: u8, second: u8, third: u8, fourth: u8) -> Value
     ensures { result ≡ number_by first second third fourth }
 {
