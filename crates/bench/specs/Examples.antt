@@ -1,16 +1,15 @@
 -- The starred bench examples 1 to 12 (document 01, "Bench examples"): what the definitions give, and what is due. Proved in
 -- proofs/Hold.antt.
-use Rattle.std.specs.Prelude.{ℕ, ◌≡◌, List, [], ◌∷◌, ◌++◌, map, true, false, replicate, ℤ, pos, negsuc}
+use Rattle.std.specs.Prelude.{ℕ, ◌≡◌, List, [], ◌∷◌, ◌++◌, map, true, false, replicate, ℤ, pos, negsuc, Some}
+use Rattle.refusal.specs.Numbers.{number}
 use Rattle.octets.specs.Made.{Made, made, unmade}
-use Rattle.frame.specs.Opening.{opening}
+use Rattle.frame.specs.Opening.{opening, number_in}
 use Rattle.joining.specs.Joining.{Member, shortest_header, joined}
 use Rattle.framing.specs.Claims.{list}
 use Rattle.digits.specs.declared.layout.Digits.{Digits}
 use Rattle.digits.specs.Layout.{digits_made}
-use Rattle.seized.specs.declared.Received.{Received}
-use Rattle.seized.specs.Receiver.{fresh_receiver, received}
+use Rattle.seized.specs.Receiver.{Received, appended_in, fresh_receiver, received}
 use Rattle.data.specs.Data.{data_made}
-use Rattle.fax.specs.declared.Stamp.TheVariants.{Stamped}
 use Rattle.fax.specs.declared.Command.TheVariants.{On}
 use Rattle.fax.specs.Fax.{fax_made}
 
@@ -21,7 +20,7 @@ pub record Example : Type 0 where
 
 -- the refusal number of a frame
 abbrev pub checked : List ℕ → List ℕ
-checked frame = (opening frame).number ∷ []
+checked frame = number_in (opening frame) ∷ []
 
 -- what a frame reads as: each sub-frame's CID, type and payload
 abbrev pub flat : List Member → List ℕ
@@ -31,7 +30,7 @@ flat (c ∷ cs) = c.cid ∷ c.ptype ∷ c.payload ++ flat cs
 -- what writing gives: the refusal number, 0 for none, and the octets
 abbrev pub written : Made → List ℕ
 written (made octets) = 0 ∷ octets
-written (unmade number) = number ∷ []
+written (unmade refusal) = number refusal ∷ []
 
 -- three off windows at a level
 abbrev pub quiet : ℤ → Digits
@@ -52,7 +51,7 @@ abbrev pub second : ℕ → ℕ → Received
 second one two = received (received fresh_receiver (numbered one)).receiver (numbered two)
 
 abbrev pub replayed : ℕ → ℕ → List ℕ
-replayed one two = (second one two).fills ∷ (second one two).carried ∷ []
+replayed one two = (appended_in (second one two)).fills ∷ (appended_in (second one two)).carried ∷ []
 
 unfoldable pub examples : List Example
 examples =
@@ -75,7 +74,7 @@ examples =
     ∷ record { bench = 11; given = written (data_made true true 300 (0xaa ∷ [])); due = 0 ∷ 0xc1 ∷ 0x2c ∷ 0xaa ∷ [] }
     ∷ record {
       bench = 12;
-      given = written (fax_made 0 (Stamped 1000) (On true 1 0) []);
+      given = written (fax_made 0 (Some 1000) (On true 1 0) []);
       due = 0 ∷ 0x81 ∷ 0xe8 ∷ 0x03 ∷ 0x81 ∷ 0x00 ∷ 0x00 ∷ [];
     }
     ∷ []

@@ -3,12 +3,15 @@
 #![tactic(auto)]
 
 ghost use Rattle.std.specs.Prelude.{◌≡◌};
-ghost use Rattle.frame.specs.Opening.{opening};
+ghost use Rattle.frame.specs.Opening.{opening, number_in};
 
 // The refusal number of a frame, 0 if it is sound.
 #[unsafe(no_mangle)]
 pub extern "C" fn cendraviu_frame_check(frame: &[u8]) -> u8
-    ensures { result ≡ (opening frame.now).number }
+    ensures { result ≡ number_in (opening frame.now) }
 {
-    frame::check(frame).number
+    match frame::check(frame) {
+        Ok(_) => refusal::SOUND,
+        Err(refused) => refused.refusal.number(),
+    }
 }

@@ -1,45 +1,40 @@
 -- What comes of calls that meet their contracts, one after the other (specs/Tied.antt).
 use Prim.Native.Nat.{ℕ, ◌+◌, ◌≤◌}
 use mathlib.Core.Path.{◌≡◌, refl, sym, ap, ap₂, subst, ◌∙◌}
-use mathlib.Core.List.{List, [], ◌∷◌, ◌++◌}
+use mathlib.Core.List.{List, ◌∷◌, ◌++◌}
 use mathlib.Core.Bool.{Bool, true, false, cond}
 use native.Mathlib.Omega.{arith}
 use borrow.Author.Tests.{ltb-false}
 use lib.Dec.{ltb}
 use lib.ListN.{length, take, drop, length-append}
 use lib.Seq.{take_at, drop_at, length-take-le}
+use Rattle.std.specs.declared.option.Option.{Option}
+use Rattle.std.specs.declared.option.Option.TheVariants.{Some, None}
+use Rattle.std.specs.declared.result.Result.{Result}
+use Rattle.std.specs.declared.result.Result.TheVariants.{Ok, Err}
 use Rattle.contracts.proofs.Coming.{comes_of}
-use Rattle.refusal.specs.Numbers.{room_too_small}
-use Rattle.octets.specs.declared.Put.{Put}
-use Rattle.octets.specs.declared.Put.TheVariants.{Written, NotWritten}
+use Rattle.refusal.specs.declared.Refusal.{Refusal}
+use Rattle.refusal.specs.declared.Refusal.TheVariants.{RoomTooSmall, ValueOutOfRange}
 use Rattle.octets.specs.Made.{Made, made, unmade, octets_of, put_made, left_made}
 use Rattle.octets.specs.Room.{put, written, left_by}
 use Rattle.octets.proofs.Order.{either}
-use Rattle.record.specs.declared.table.Found.{Found}
+use Rattle.record.specs.declared.syntax.Record.{Record}
 use Rattle.digits.specs.declared.layout.Digits as digits-layout
 use Rattle.digits.specs.Layout.{digits_made}
 use Rattle.signalling.specs.declared.layout.Signalling as signalling-layout
-use Rattle.signalling.specs.Layout.{signalling_made}
+use Rattle.signalling.specs.Layout.{allowed, signalling_made}
 use Rattle.dialling.specs.declared.Entry as digit-entry
 use Rattle.dialling.specs.declared.Sender as digit_sender
-use Rattle.dialling.specs.declared.Sending.{Sending}
-use Rattle.dialling.specs.declared.Sending.TheVariants.{BadEntry, Unsent, Sent}
-use Rattle.dialling.specs.declared.Taken as digit-taken
 use Rattle.dialled.specs.declared.Receiver as digit_receiver
-use Rattle.dialled.specs.declared.Received as digit-received
-use Rattle.dialling.specs.Sender.{fresh_sender, sending}
+use Rattle.dialling.specs.Sender.{Taken, fresh_sender, sending}
 use Rattle.dialled.specs.Receiver as dialled
 use Rattle.seizing.specs.declared.Entry as signalling-entry
 use Rattle.seizing.specs.declared.Sender as signalling-sender
-use Rattle.seizing.specs.declared.Started as signalling-started
-use Rattle.seizing.specs.declared.Sent as signalling_sent
 use Rattle.seized.specs.declared.Receiver as signalling_receiver
-use Rattle.seized.specs.declared.Received as signalling_received
-use Rattle.seizing.specs.Sender.{started, sent}
+use Rattle.seizing.specs.Sender.{Sent, sender_from, started, sent}
 use Rattle.seized.specs.Receiver as seized
 use Rattle.trunk.specs.declared.Trunk.{Trunk}
-use Rattle.trunk.specs.declared.Told.{Told}
-use Rattle.trunk.specs.Trunk.{fresh_trunk, taken}
+use Rattle.trunk.specs.Trunk.{Told, fresh_trunk, taken}
 use Rattle.replay.specs.Periods.{AllIn}
 use Rattle.carried.specs.Emissions.{Emission}
 use Rattle.carried.specs.Digits as digits
@@ -49,40 +44,34 @@ use Rattle.carried.specs.Tied.{Puts, DigitsPut, DigitCallsSent, no_more_digits, 
 use Rattle.carried.proofs.Digits.{digits-carried}
 use Rattle.carried.proofs.Signalling.{signalling-carried}
 use Rattle.carried.proofs.Trunks.{trunk-digits-carried, trunk-signalling-carried}
-use Rattle.dialling.proofs.fresh.Kinds as digit-sender-kinds
-use Rattle.dialling.proofs.fresh.Reads as digit-sender-reads
-use Rattle.dialling.proofs.send.Kinds as digit-send-kinds
-use Rattle.dialling.proofs.send.Reads as digit-send-reads
-use Rattle.dialled.proofs.fresh.Kinds as digit-receiver-kinds
-use Rattle.dialled.proofs.fresh.Reads as digit-receiver-reads
-use Rattle.dialled.proofs.receive.Kinds as digit-receive-kinds
-use Rattle.dialled.proofs.receive.Reads as digit-receive-reads
-use Rattle.dialled.proofs.hear_voice.Kinds as hear-voice-kinds
-use Rattle.dialled.proofs.hear_voice.Reads as hear-voice-reads
+use Rattle.dialling.proofs.Sender.fresh.Kinds as digit-sender-kinds
+use Rattle.dialling.proofs.Sender.fresh.Reads as digit-sender-reads
+use Rattle.dialling.proofs.Sender.send.Kinds as digit-send-kinds
+use Rattle.dialling.proofs.Sender.send.Reads as digit-send-reads
+use Rattle.dialled.proofs.Receiver.fresh.Kinds as digit-receiver-kinds
+use Rattle.dialled.proofs.Receiver.fresh.Reads as digit-receiver-reads
+use Rattle.dialled.proofs.Receiver.receive.Kinds as digit-receive-kinds
+use Rattle.dialled.proofs.Receiver.receive.Reads as digit-receive-reads
+use Rattle.dialled.proofs.Receiver.hear_voice.Kinds as hear-voice-kinds
+use Rattle.dialled.proofs.Receiver.hear_voice.Reads as hear-voice-reads
 use Rattle.digits.proofs.layout.put_digits.Kinds as put-digits-kinds
 use Rattle.digits.proofs.layout.put_digits.Reads as put-digits-reads
-use Rattle.seizing.proofs.start.Kinds as start-kinds
-use Rattle.seizing.proofs.start.Reads as start-reads
-use Rattle.seizing.proofs.send.Kinds as signalling-send-kinds
-use Rattle.seizing.proofs.send.Reads as signalling-send-reads
-use Rattle.seized.proofs.fresh.Kinds as signalling-receiver-kinds
-use Rattle.seized.proofs.fresh.Reads as signalling-receiver-reads
-use Rattle.seized.proofs.receive.Kinds as signalling-receive-kinds
-use Rattle.seized.proofs.receive.Reads as signalling-receive-reads
+use Rattle.seizing.proofs.Sender.start.Kinds as start-kinds
+use Rattle.seizing.proofs.Sender.start.Reads as start-reads
+use Rattle.seizing.proofs.Sender.send.Kinds as signalling-send-kinds
+use Rattle.seizing.proofs.Sender.send.Reads as signalling-send-reads
+use Rattle.seized.proofs.Receiver.fresh.Kinds as signalling-receiver-kinds
+use Rattle.seized.proofs.Receiver.fresh.Reads as signalling-receiver-reads
+use Rattle.seized.proofs.Receiver.receive.Kinds as signalling-receive-kinds
+use Rattle.seized.proofs.Receiver.receive.Reads as signalling-receive-reads
 use Rattle.signalling.proofs.layout.put_signalling.Kinds as put-signalling-kinds
 use Rattle.signalling.proofs.layout.put_signalling.Reads as put-signalling-reads
-use Rattle.trunk.proofs.fresh.Kinds as trunk-kinds
-use Rattle.trunk.proofs.fresh.Reads as trunk-reads
-use Rattle.trunk.proofs.take.Kinds as take-kinds
-use Rattle.trunk.proofs.take.Reads as take-reads
+use Rattle.trunk.proofs.Trunk.fresh.Kinds as trunk-kinds
+use Rattle.trunk.proofs.Trunk.fresh.Reads as trunk-reads
+use Rattle.trunk.proofs.Trunk.take.Kinds as take-kinds
+use Rattle.trunk.proofs.Trunk.take.Reads as take-reads
 
 -- octets that were put stand where they were put
-never : {A : Type 0} (next number : ℕ) → Written next ≡ NotWritten number → A
-never next number e = let z : ◌≡◌ {A = ℕ} 0 1 = cc in absurd (omega arith)
-
-same_end : (next end : ℕ) → Written next ≡ Written end → next ≡ end
-same_end next end e = cc
-
 stand : (room octets left : List ℕ) (at next : ℕ) → at + length octets ≤ length room → next ≡ at + length octets → left ≡ written room at octets → drop at (take next left) ≡ octets
 stand room octets left at next fits end is =
     let front : length (take at room) ≡ at = length-take-le at room (omega arith) in
@@ -91,111 +80,112 @@ stand room octets left at next fits end is =
     ∙ ap (drop at) (take_at (take at room ++ octets) (drop (at + length octets) room) next many)
     ∙ drop_at (take at room) octets at front
 
-put-stands : (m : Made) (room : List ℕ) (at next : ℕ) (left : List ℕ) → Written next ≡ put_made room at m → left ≡ left_made room at m → drop at (take next left) ≡ octets_of m
+put-stands : (m : Made) (room : List ℕ) (at next : ℕ) (left : List ℕ) → Ok next ≡ put_made room at m → left ≡ left_made room at m → drop at (take next left) ≡ octets_of m
 unfolding put
-put-stands (unmade number) room at next left answers leaves = never next number answers
+put-stands (unmade refusal) room at next left answers leaves = absurd cc
 put-stands (made octets) room at next left answers leaves =
-    let choose : Bool → Put = λ (b : Bool). cond b (NotWritten room_too_small) (Written (at + length octets)) in
+    let choose : Bool → Result ℕ Refusal = λ (b : Bool). cond b (Err RoomTooSmall) (Ok (at + length octets)) in
     either
-    (λ (e : ltb (length room) (at + length octets) ≡ true). never next room_too_small (answers ∙ ap choose e))
+    (λ (e : ltb (length room) (at + length octets) ≡ true). let no : Ok next ≡ Err RoomTooSmall = answers ∙ ap choose e in absurd cc)
     (λ (e : ltb (length room) (at + length octets) ≡ false).
-    stand room octets left at next (ltb-false (length room) (at + length octets) e) (same_end next (at + length octets) (answers ∙ ap choose e))
+    let is : Ok next ≡ Ok (at + length octets) = answers ∙ ap choose e in
+    let end : next ≡ at + length octets = cc in
+    stand room octets left at next (ltb-false (length room) (at + length octets) e) end
     (leaves ∙ ap (λ (b : Bool). left_by (choose b) room at octets) e))
     (ltb (length room) (at + length octets))
     refl
 
 -- what a call that puts a content answers and leaves, together
-abbrev put_back : List ℕ → ℕ → Made → Put × List ℕ
+abbrev put_back : List ℕ → ℕ → Made → Result ℕ Refusal × List ℕ
 put_back room at m = (put_made room at m, left_made room at m)
 
-puts-are : (Call : List ℕ → ℕ → Put → List ℕ → Type 0) (m : Made)
-    → ((room : List ℕ) (at : ℕ) (answer : Put) (left : List ℕ) → Call room at answer left → (answer, left) ≡ put_back room at m)
+puts-are : (Call : List ℕ → ℕ → Result ℕ Refusal → List ℕ → Type 0) (m : Made)
+    → ((room : List ℕ) (at : ℕ) (answer : Result ℕ Refusal) (left : List ℕ) → Call room at answer left → (answer, left) ≡ put_back room at m)
     → (octets : List ℕ)
     → Puts Call octets
     → octets ≡ octets_of m
 puts-are Call m says octets puts =
-    let back = says puts.room puts.at (Written puts.next) puts.left puts.call in
+    let back = says puts.room puts.at (Ok puts.next) puts.left puts.call in
     puts.stands
-    ∙ put-stands m puts.room puts.at puts.next puts.left (ap (λ (b : Put × List ℕ). b.0) back) (ap (λ (b : Put × List ℕ). b.1) back)
+    ∙ put-stands m puts.room puts.at puts.next puts.left (ap (λ (b : Result ℕ Refusal × List ℕ). b.0) back) (ap (λ (b : Result ℕ Refusal × List ℕ). b.1) back)
 
-both : {y y2 : Put} {l l2 : List ℕ} → y ≡ y2 → l ≡ l2 → ◌≡◌ {A = Put × List ℕ} (y, l) (y2, l2)
-both p q = ap₂ (λ (y : Put) (l : List ℕ). (y, l)) p q
+both : {y y2 : Result ℕ Refusal} {l l2 : List ℕ} → y ≡ y2 → l ≡ l2 → ◌≡◌ {A = Result ℕ Refusal × List ℕ} (y, l) (y2, l2)
+both p q = ap₂ (λ (y : Result ℕ Refusal) (l : List ℕ). (y, l)) p q
 
 -- digits
-digits_put : (d : digits-layout.Digits) (room : List ℕ) (at : ℕ) (answer : Put) (left : List ℕ) → DigitsPut d room at answer left → (answer, left) ≡ put_back room at (digits_made d)
+digits_put : (d : digits-layout.Digits) (room : List ℕ) (at : ℕ) (answer : Result ℕ Refusal) (left : List ℕ) → DigitsPut d room at answer left → (answer, left) ≡ put_back room at (digits_made d)
 digits_put d room at answer left m =
     comes_of 1 put-digits-kinds.ps put-digits-kinds.r put-digits-reads.Post _ _ (λ (i : List ℕ × ℕ × digits-layout.Digits). put_back i.0 i.1 (digits_made i.2)) (λ κs a x s p. both p.0 p.1) (room, at, d) (answer, left) m
 
-digits-emitted : (n : ℕ) (answer : Sending) (octets : List ℕ) → ((d : digits-layout.Digits) → answer ≡ Sent d → Puts (DigitsPut d) octets) → digits.emitted_as n answer octets ≡ digits.emitted n answer
-digits-emitted n (Sent d) octets puts = ap (digits.emitted_as n (Sent d)) (puts-are (DigitsPut d) (digits_made d) (digits_put d) octets (puts d refl))
-digits-emitted n Unsent octets puts = refl
-digits-emitted n (BadEntry number) octets puts = refl
+digits-emitted : (n : ℕ) (answer : Result (Option digits-layout.Digits) Refusal) (octets : List ℕ) → ((d : digits-layout.Digits) → answer ≡ Ok (Some d) → Puts (DigitsPut d) octets) → digits.emitted_as n answer octets ≡ digits.emitted n answer
+digits-emitted n (Ok (Some d)) octets puts = ap (digits.emitted_as n (Ok (Some d))) (puts-are (DigitsPut d) (digits_made d) (digits_put d) octets (puts d refl))
+digits-emitted n (Ok None) octets puts = refl
+digits-emitted n (Err refusal) octets puts = refl
 
 digits_sent : (s : digit_sender.Sender) (n : ℕ) (es : List digit-entry.Entry) (ps : List Emission) → DigitCallsSent s n es ps → ps ≡ digits.emissions s n es
 digits_sent s0 n0 es0 ps0 (no_more_digits s n) = refl
 digits_sent s0 n0 es0 ps0 (digits_on s n e es x octets ps call puts more) =
     let is : x ≡ sending s e =
-    comes_of 0 digit-send-kinds.ps digit-send-kinds.r digit-send-reads.Post _ _ (λ (i : digit_sender.Sender × digit-entry.Entry). sending i.0 i.1) (λ κs a x s p. p) (s, e) x call
+    comes_of 1 digit-send-kinds.ps digit-send-kinds.r digit-send-reads.Post _ _ (λ (i : digit_sender.Sender × digit-entry.Entry). sending i.0 i.1) (λ κs a x s p. ap₂ (λ y t. record { answer = y; sender = t }) p.0 p.1) (s, e) x call
     in
     ap₂ (λ (l r : List Emission). l ++ r) (digits-emitted n x.answer octets puts) (digits_sent x.sender (digits.number_after n x.answer) es ps more)
-    ∙ ap (λ (t : digit-taken.Taken). digits.emitted n t.answer ++ digits.emissions t.sender (digits.number_after n t.answer) es) is
+    ∙ ap (λ (t : Taken). digits.emitted n t.answer ++ digits.emissions t.sender (digits.number_after n t.answer) es) is
 
-digits_received : (r : digit_receiver.Receiver) (hs : List digits.Heard) (xs : List digit-received.Received) → DigitsReceived r hs xs → xs ≡ digits.answers r hs
+digits_received : (r : digit_receiver.Receiver) (hs : List digits.Heard) (xs : List dialled.Received) → DigitsReceived r hs xs → xs ≡ digits.answers r hs
 digits_received r0 hs0 xs0 (no_more_heard r) = refl
 digits_received r0 hs0 xs0 (receives_on r p hs x xs call more) =
     let is : x ≡ dialled.received r p.octets =
-    comes_of 1 digit-receive-kinds.ps digit-receive-kinds.r digit-receive-reads.Post _ _ (λ (i : digit_receiver.Receiver × List ℕ). dialled.received i.0 i.1) (λ κs a x s p. p) (r, p.octets) x call
+    comes_of 2 digit-receive-kinds.ps digit-receive-kinds.r digit-receive-reads.Post _ _ (λ (i : digit_receiver.Receiver × List ℕ). dialled.received i.0 i.1) (λ κs a x s p. ap₂ (λ y t. record { answer = y; receiver = t }) p.0 p.1) (r, p.octets) x call
     in
-    ap (λ (l : List digit-received.Received). x ∷ l) (digits_received x.receiver hs xs more)
-    ∙ ap (λ (y : digit-received.Received). y ∷ digits.answers y.receiver hs) is
+    ap (λ (l : List dialled.Received). x ∷ l) (digits_received x.receiver hs xs more)
+    ∙ ap (λ (y : dialled.Received). y ∷ digits.answers y.receiver hs) is
 digits_received r0 hs0 xs0 (hears_on r after hs xs call more) =
     let is : after ≡ dialled.voice_heard r =
-    comes_of 0 hear-voice-kinds.ps hear-voice-kinds.r hear-voice-reads.Post _ _ (λ (i : digit_receiver.Receiver). dialled.voice_heard i) (λ κs a x s p. p) r after call
+    comes_of 1 hear-voice-kinds.ps hear-voice-kinds.r hear-voice-reads.Post _ _ (λ (i : digit_receiver.Receiver). dialled.voice_heard i) (λ κs a x s p. p) r after call
     in
     digits_received after hs xs more ∙ ap (λ (q : digit_receiver.Receiver). digits.answers q hs) is
 
 -- signalling
-signalling_put : (d : signalling-layout.Signalling) (room : List ℕ) (at : ℕ) (answer : Put) (left : List ℕ) → SignallingPut d room at answer left → (answer, left) ≡ put_back room at (signalling_made d)
+signalling_put : (d : signalling-layout.Signalling) (room : List ℕ) (at : ℕ) (answer : Result ℕ Refusal) (left : List ℕ) → SignallingPut d room at answer left → (answer, left) ≡ put_back room at (signalling_made d)
 signalling_put d room at answer left m =
     comes_of 1 put-signalling-kinds.ps put-signalling-kinds.r put-signalling-reads.Post _ _ (λ (i : List ℕ × ℕ × signalling-layout.Signalling). put_back i.0 i.1 (signalling_made i.2)) (λ κs a x s p. both p.0 p.1) (room, at, d) (answer, left) m
 
-either_way : (due : Bool) (number : ℕ) (octets others : List ℕ) → (due ≡ true → octets ≡ others)
-    → ◌≡◌ {A = List Emission} (cond due (record { number = number; octets = octets } ∷ []) []) (cond due (record { number = number; octets = others } ∷ []) [])
-either_way true number octets others is = ap (λ (o : List ℕ). record { number = number; octets = o } ∷ []) (is refl)
-either_way false number octets others is = refl
+samples-emitted : (s : signalling-sender.Sender) (n : ℕ) (answer : Result (Option signalling-layout.Signalling) Refusal) (after : signalling-sender.Sender) (octets : List ℕ)
+    → ((d : signalling-layout.Signalling) → answer ≡ Ok (Some d) → Puts (SignallingPut d) octets)
+    → signalling.emitted_as s n (record { answer = answer; sender = after }) octets ≡ signalling.emitted s n (record { answer = answer; sender = after })
+samples-emitted s n (Ok (Some d)) after octets puts =
+    ap (signalling.emitted_as s n (record { answer = Ok (Some d); sender = after })) (puts-are (SignallingPut d) (signalling_made d) (signalling_put d) octets (puts d refl))
+samples-emitted s n (Ok None) after octets puts = refl
+samples-emitted s n (Err refusal) after octets puts = refl
 
 samples-sent : (s : signalling-sender.Sender) (n : ℕ) (es : List signalling-entry.Entry) (ps : List Emission) → SignallingSent s n es ps → ps ≡ signalling.emissions s n es
 samples-sent s0 n0 es0 ps0 (no_more_samples s n) = refl
 samples-sent s0 n0 es0 ps0 (samples_on s n e es x octets ps call puts more) =
     let is : x ≡ sent s e =
-    comes_of 0 signalling-send-kinds.ps signalling-send-kinds.r signalling-send-reads.Post _ _ (λ (i : signalling-sender.Sender × signalling-entry.Entry). sent i.0 i.1) (λ κs a x s p. p) (s, e) x call
+    comes_of 1 signalling-send-kinds.ps signalling-send-kinds.r signalling-send-reads.Post _ _ (λ (i : signalling-sender.Sender × signalling-entry.Entry). sent i.0 i.1) (λ κs a x s p. ap₂ (λ y t. record { answer = y; sender = t }) p.0 p.1) (s, e) x call
     in
-    let one : signalling.emitted_as s n x octets ≡ signalling.emitted s n x =
-    either_way x.due _ octets (octets_of (signalling_made x.signalling))
-    (λ due. puts-are (SignallingPut x.signalling) (signalling_made x.signalling) (signalling_put x.signalling) octets (puts due))
-    in
-    ap₂ (λ (l r : List Emission). l ++ r) one (samples-sent x.sender (signalling.number_after s n x) es ps more)
-    ∙ ap (λ (t : signalling_sent.Sent). signalling.emitted s n t ++ signalling.emissions t.sender (signalling.number_after s n t) es) is
+    ap₂ (λ (l r : List Emission). l ++ r) (samples-emitted s n x.answer x.sender octets puts) (samples-sent x.sender (signalling.number_after s n x) es ps more)
+    ∙ ap (λ (t : Sent). signalling.emitted s n t ++ signalling.emissions t.sender (signalling.number_after s n t) es) is
 
-samples-received : (r : signalling_receiver.Receiver) (ps : List Emission) (xs : List signalling_received.Received) → SignallingReceived r ps xs → xs ≡ signalling.answers r ps
+samples-received : (r : signalling_receiver.Receiver) (ps : List Emission) (xs : List seized.Received) → SignallingReceived r ps xs → xs ≡ signalling.answers r ps
 samples-received r0 ps0 xs0 (no_more_come r) = refl
 samples-received r0 ps0 xs0 (comes_on r p ps x xs call more) =
     let is : x ≡ seized.received r p.octets =
-    comes_of 1 signalling-receive-kinds.ps signalling-receive-kinds.r signalling-receive-reads.Post _ _ (λ (i : signalling_receiver.Receiver × List ℕ). seized.received i.0 i.1) (λ κs a x s p. p) (r, p.octets) x call
+    comes_of 2 signalling-receive-kinds.ps signalling-receive-kinds.r signalling-receive-reads.Post _ _ (λ (i : signalling_receiver.Receiver × List ℕ). seized.received i.0 i.1) (λ κs a x s p. ap₂ (λ y t. record { answer = y; receiver = t }) p.0 p.1) (r, p.octets) x call
     in
-    ap (λ (l : List signalling_received.Received). x ∷ l) (samples-received x.receiver ps xs more)
-    ∙ ap (λ (y : signalling_received.Received). y ∷ signalling.answers y.receiver ps) is
+    ap (λ (l : List seized.Received). x ∷ l) (samples-received x.receiver ps xs more)
+    ∙ ap (λ (y : seized.Received). y ∷ signalling.answers y.receiver ps) is
 
 -- a trunk
-told_is : (kind : ℕ) (found : Found) (t : Trunk) (c : Coming) → taken t found (type_of kind c) (octets_in c) ≡ told_of kind found t c
+told_is : (kind : ℕ) (found : Option Record) (t : Trunk) (c : Coming) → taken t found (type_of kind c) (octets_in c) ≡ told_of kind found t c
 told_is kind found t (came p) = refl
 told_is kind found t (other ptype octets) = refl
 
-trunk_told : (kind : ℕ) (found : Found) (t : Trunk) (cs : List Coming) (xs : List Told) → TrunkTold kind found t cs xs → xs ≡ tellings kind found t cs
+trunk_told : (kind : ℕ) (found : Option Record) (t : Trunk) (cs : List Coming) (xs : List Told) → TrunkTold kind found t cs xs → xs ≡ tellings kind found t cs
 trunk_told kind found t0 cs0 xs0 (no_more_told t) = refl
 trunk_told kind found t0 cs0 xs0 (tells_on t c cs x xs call more) =
     let is : x ≡ told_of kind found t c =
-    comes_of 1 take-kinds.ps take-kinds.r take-reads.Post _ _ (λ (i : Trunk × Found × ℕ × List ℕ). taken i.0 i.1 i.2 i.3) (λ κs a x s p. p) (t, found, type_of kind c, octets_in c) x call
+    comes_of 2 take-kinds.ps take-kinds.r take-reads.Post _ _ (λ (i : Trunk × Option Record × ℕ × List ℕ). taken i.0 i.1 i.2 i.3) (λ κs a x s p. ap₂ (λ y u. record { answer = y; trunk = u }) p.0 p.1) (t, found, type_of kind c, octets_in c) x call
     ∙ told_is kind found t c
     in
     ap (λ (l : List Told). x ∷ l) (trunk_told kind found x.trunk cs xs more) ∙ ap (λ (y : Told). y ∷ tellings kind found y.trunk cs) is
@@ -236,15 +226,23 @@ digit-calls-carried entries first second answers answers2 calls =
       more = calls.more;
     }))
 
+-- a sender that `start` answers is that of the value
+starts-from : (start : ℕ) (s : signalling-sender.Sender) → Ok s ≡ started start → s ≡ sender_from start
+starts-from start s is =
+    either (λ yes. let starts : started start ≡ Ok (sender_from start) = rw yes refl in cc)
+    (λ no. let refuses : started start ≡ Err ValueOutOfRange = rw no refl in absurd cc)
+    (allowed start)
+    refl
+
 pub signalling-calls-carried : SignallingCallsCarried
 signalling-calls-carried start entries first second answers answers2 calls =
-    let begun : calls.begun ≡ started start =
-    comes_of 0 start-kinds.ps start-kinds.r start-reads.Post _ _ (λ (i : ℕ). started i) (λ κs a x s p. p) start calls.begun calls.starts
+    let starts : Ok calls.sender ≡ started start =
+    comes_of 0 start-kinds.ps start-kinds.r start-reads.Post _ _ (λ (i : ℕ). started i) (λ κs a x s p. p) start (Ok calls.sender) calls.starts
     in
+    let begun : calls.sender ≡ sender_from start = starts-from start calls.sender starts in
     let is-fresh = comes_of 0 signalling-receiver-kinds.ps signalling-receiver-kinds.r signalling-receiver-reads.Post _ _ (λ (i : Unit {0}). seized.fresh_receiver) (λ κs a x s p. p) (tt {0}) in
-    let payloads : calls.payloads ≡ signalling.emissions (started start).sender 0 entries =
-    samples-sent calls.begun.sender 0 entries calls.payloads calls.sends
-    ∙ ap (λ (b : signalling-started.Started). signalling.emissions b.sender 0 entries) begun
+    let payloads : calls.payloads ≡ signalling.emissions (sender_from start) 0 entries =
+    samples-sent calls.sender 0 entries calls.payloads calls.sends ∙ ap (λ (s : signalling-sender.Sender). signalling.emissions s 0 entries) begun
     in
     let one : answers ≡ signalling.answers seized.fresh_receiver first =
     samples-received calls.receiver first answers calls.receives ∙ ap (λ (r : signalling_receiver.Receiver). signalling.answers r first) (is-fresh calls.receiver calls.receiver_fresh)
@@ -255,7 +253,7 @@ signalling-calls-carried start entries first second answers answers2 calls =
     rw (one, two)
     (signalling-carried start entries first second
     (record {
-      begins = sym (ap (λ (b : signalling-started.Started). b.number) begun) ∙ calls.begins;
+      begins = sym starts ∙ ap (λ (s : signalling-sender.Sender). Ok s) begun;
       ten = calls.ten;
       some = subst (AllIn first) payloads calls.some;
       some2 = subst (AllIn second) payloads calls.some2;
@@ -268,7 +266,7 @@ signalling-calls-carried start entries first second answers answers2 calls =
 fresh-trunk : (t : Trunk) → FreshTrunk t → t ≡ fresh_trunk
 fresh-trunk t m = comes_of 0 trunk-kinds.ps trunk-kinds.r trunk-reads.Post _ _ (λ (i : Unit {0}). fresh_trunk) (λ κs a x s p. p) (tt {0}) t m
 
-told_fresh : (kind : ℕ) (found : Found) (t : Trunk) (cs : List Coming) (xs : List Told) → FreshTrunk t → TrunkTold kind found t cs xs → xs ≡ tellings kind found fresh_trunk cs
+told_fresh : (kind : ℕ) (found : Option Record) (t : Trunk) (cs : List Coming) (xs : List Told) → FreshTrunk t → TrunkTold kind found t cs xs → xs ≡ tellings kind found fresh_trunk cs
 told_fresh kind found t cs xs fresh told = trunk_told kind found t cs xs told ∙ ap (λ (u : Trunk). tellings kind found u cs) (fresh-trunk t fresh)
 
 pub trunk-digit-calls-carried : TrunkDigitCallsCarried

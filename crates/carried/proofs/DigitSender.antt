@@ -7,17 +7,20 @@ use mathlib.Core.Option.{some}
 use native.Mathlib.Nat.{zero-add}
 use native.Mathlib.Omega.{arith}
 use lib.ListN.{get_or}
+use Rattle.std.specs.declared.option.Option as std_option
+use Rattle.std.specs.declared.option.Option.TheVariants.{Some, None}
+use Rattle.std.specs.declared.result.Result.{Result}
+use Rattle.std.specs.declared.result.Result.TheVariants.{Ok, Err}
+use Rattle.refusal.specs.declared.Refusal.{Refusal}
 use Rattle.octets.specs.Made.{Made, octets_of}
 use Rattle.octets.proofs.Order.{either}
 use Rattle.counts.proofs.Laws.{laws}
 use Rattle.digits.specs.declared.layout.Window.{Window}
+use Rattle.digits.specs.declared.layout.Digits.{Digits}
 use Rattle.dialling.specs.declared.Entry.{Entry}
 use Rattle.dialling.specs.declared.Sender.{Sender}
-use Rattle.dialling.specs.declared.Sending.{Sending}
-use Rattle.dialling.specs.declared.Sending.TheVariants.{BadEntry, Unsent, Sent}
-use Rattle.dialling.specs.declared.Taken.{Taken}
 use Rattle.digits.specs.Layout.{off_window, digits_read, digits_made}
-use Rattle.dialling.specs.Sender.{fresh_sender, window_in, due, payload_of, after_sent, after_unsent, sending}
+use Rattle.dialling.specs.Sender.{Taken, fresh_sender, window_in, due, payload_of, after_sent, after_unsent, sending}
 use Rattle.dialling.specs.SenderClaims.{Proper, ReadsBack}
 use Rattle.dialling.proofs.SenderBack.{split, fresh-proper, stays-proper, sent-reads-back}
 use Rattle.dialling.proofs.SenderCases as cases
@@ -59,8 +62,8 @@ module _ (S : ℕ → Window) where
       ∙ rw (next, w0, w1, w2) refl
 
   sends : (s : Sender) (n : ℕ) (e : Entry) (es : List Entry) → Run es → Proper s → s.next.0 ≡ n % 2 ^ 8
-      → sending s e ≡ record { answer = Sent (payload_of s (window_in e) e.level); sender = after_sent s (window_in e) }
-      → Answered s n e es (record { answer = Sent (payload_of s (window_in e) e.level); sender = after_sent s (window_in e) })
+      → sending s e ≡ record { answer = Ok (Some (payload_of s (window_in e) e.level)); sender = after_sent s (window_in e) }
+      → Answered s n e es (record { answer = Ok (Some (payload_of s (window_in e) e.level)); sender = after_sent s (window_in e) })
   sends s n e es run proper next is ahead =
       let w = window_in e in
       let back = sent-reads-back s e (payload_of s w e.level) proper (ap (λ (t : Taken). t.answer) is) in
@@ -78,10 +81,10 @@ module _ (S : ℕ → Window) where
       let w = window_in e in
       either
       (λ (sent : due s w ≡ true).
-      let is : sending s e ≡ record { answer = Sent (payload_of s w e.level); sender = after_sent s w } = passed.is ∙ cases.sent s w e.level sent in
+      let is : sending s e ≡ record { answer = Ok (Some (payload_of s w e.level)); sender = after_sent s w } = passed.is ∙ cases.sent s w e.level sent in
       subst (Answered s n e es) (sym is) (sends s n e es run proper next is))
       (λ (unsent : due s w ≡ false).
-      let is : sending s e ≡ record { answer = Unsent; sender = after_unsent s w } = passed.is ∙ cases.unsent s w e.level unsent in
+      let is : sending s e ≡ record { answer = Ok None; sender = after_unsent s w } = passed.is ∙ cases.unsent s w e.level unsent in
       subst (Answered s n e es) (sym is)
       (λ ahead. run (after_unsent s w) n (subst (λ (t : Taken). Proper t.sender) is (stays-proper s e proper)) next ahead))
       (due s w)
@@ -100,9 +103,9 @@ pub all-rise : (s : Sender) (n : ℕ) (es : List Entry) → Rising n (map (λ (p
 all-rise s n [] = tt
 all-rise s n (e ∷ es) = go (sending s e).answer (all-rise (sending s e).sender (number_after n (sending s e).answer) es)
   where
-    go : (a : Sending)
+    go : (a : Result (std_option.Option Digits) Refusal)
         → Rising (number_after n a) (map (λ (p : Emission). p.number) (emissions (sending s e).sender (number_after n a) es))
         → Rising n (map (λ (p : Emission). p.number) (emitted n a ++ emissions (sending s e).sender (number_after n a) es))
-    go (Sent d) r = (omega arith, rising-from n (suc n) (map (λ (p : Emission). p.number) (emissions (sending s e).sender (suc n) es)) (omega arith) r)
-    go Unsent r = r
-    go (BadEntry refusal) r = r
+    go (Ok (Some d)) r = (omega arith, rising-from n (suc n) (map (λ (p : Emission). p.number) (emissions (sending s e).sender (suc n) es)) (omega arith) r)
+    go (Ok None) r = r
+    go (Err refusal) r = r

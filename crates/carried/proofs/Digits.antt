@@ -7,7 +7,7 @@ use native.Mathlib.Omega.{arith}
 use Rattle.digits.specs.declared.layout.Window.{Window}
 use Rattle.dialling.specs.Sender.{fresh_sender}
 use Rattle.dialled.specs.declared.Receiver.{Receiver}
-use Rattle.dialled.specs.Receiver.{fresh_receiver, farthest, received, voice_heard}
+use Rattle.dialled.specs.Receiver.{fresh_receiver, farthest, number_in, received, voice_heard}
 use Rattle.replay.specs.Periods.{Payload, pay}
 use Rattle.replay.specs.Claims.{brought_by, joined_to, answer_to, answers_of}
 use Rattle.replay.proofs.Sublists.{Each, each_in, sublist-map, sublist-in, sublist-of, sublist-among, rising-some, rising-fresh, in_order}
@@ -30,8 +30,8 @@ module _ (S : ℕ → Window) where
   answers-are r [] each = refl
   answers-are r (came p ∷ hs) each =
       let after = (received r p.octets).receiver in
-      ap (λ (o : Option (Payload Window)). answer_to o (received r p.octets).number (answers_of digit_receiver brings after hs)) each.0
-      ∙ ap (λ (ns : List ℕ). (received r p.octets).number ∷ ns) (answers-are after hs each.1)
+      ap (λ (o : Option (Payload Window)). answer_to o (number_in (received r p.octets)) (answers_of digit_receiver brings after hs)) each.0
+      ∙ ap (λ (ns : List ℕ). number_in (received r p.octets) ∷ ns) (answers-are after hs each.1)
   answers-are r (voice ∷ hs) each = answers-are (voice_heard r) hs each
 
 pub digits-carried : DigitsCarried

@@ -12,8 +12,7 @@ use Rattle.levels.specs.Level.{code_of}
 use Rattle.digits.specs.Layout.{window_wrong, level_low}
 use Rattle.dialling.specs.declared.Entry.{Entry}
 use Rattle.dialling.specs.declared.Sender.{Sender}
-use Rattle.dialling.specs.declared.Taken.{Taken}
-use Rattle.dialling.specs.Sender.{fresh_sender, window_in, changes, stray_edge, loud, due, period, sending}
+use Rattle.dialling.specs.Sender.{Taken, fresh_sender, window_in, changes, stray_edge, loud, due, period, sending}
 use Rattle.dialling.specs.SenderClaims.{answers, loud_of, loud_periods, near_loud}
 use Rattle.dialling.proofs.SentExactly.{sent-exactly}
 use Rattle.octets.proofs.Order.{picked}

@@ -4,9 +4,9 @@ use mathlib.Core.Path.{◌≡◌, refl, ap, ◌∙◌}
 use mathlib.Core.List.{List, [], ◌∷◌, map}
 use mathlib.Core.Option.{Option}
 use native.Mathlib.Omega.{arith}
-use Rattle.seizing.specs.Sender.{started}
+use Rattle.seizing.specs.Sender.{sender_from}
 use Rattle.seized.specs.declared.Receiver.{Receiver}
-use Rattle.seized.specs.Receiver.{fresh_receiver, farthest, received}
+use Rattle.seized.specs.Receiver.{fresh_receiver, farthest, number_in, received}
 use Rattle.replay.specs.Periods.{Payload, pay}
 use Rattle.replay.specs.Claims.{brought_by, joined_to, answer_to, answers_of}
 use Rattle.replay.proofs.Sublists.{Each, each_in, sublist-map, sublist-in, rising-some, rising-fresh, in_order}
@@ -28,13 +28,13 @@ module _ (S : ℕ → List ℕ) where
   answers-are r [] each = refl
   answers-are r (p ∷ ps) each =
       let after = (received r p.octets).receiver in
-      ap (λ (o : Option (Payload (List ℕ))). answer_to o (received r p.octets).number (answers_of signalling_receiver brings after ps)) each.0
-      ∙ ap (λ (ns : List ℕ). (received r p.octets).number ∷ ns) (answers-are after ps each.1)
+      ap (λ (o : Option (Payload (List ℕ))). answer_to o (number_in (received r p.octets)) (answers_of signalling_receiver brings after ps)) each.0
+      ∙ ap (λ (ns : List ℕ). number_in (received r p.octets) ∷ ns) (answers-are after ps each.1)
 
 pub signalling-carried : SignallingCarried
 signalling-carried start entries one two given =
     let S = period_of start entries in
-    let sent = emissions (started start).sender 0 entries in
+    let sent = emissions (sender_from start) 0 entries in
     let bring = all-bring start entries given.begins given.ten in
     let each = each_in (Brings S) one sent given.some bring in
     let each2 = each_in (Brings S) two sent given.some2 bring in
@@ -49,7 +49,7 @@ signalling-carried start entries one two given =
 
 pub signalling-in-order : SignallingInOrder
 signalling-in-order start entries one two given =
-    let sent = emissions (started start).sender 0 entries in
+    let sent = emissions (sender_from start) 0 entries in
     let number : Emission → ℕ = λ p. p.number in
     let rise = all-rise start entries in
     let rising = rising-some 0 (arrivals one) (map number sent) (sublist-map number one sent given.some) rise in

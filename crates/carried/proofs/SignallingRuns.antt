@@ -8,13 +8,11 @@ use native.Mathlib.Omega.{arith}
 use borrow.Author.Tests.{lt-ltb, eq-eqb, eqb-true}
 use lib.Dec.{eqb}
 use lib.ListN.{length, replicate}
-use Rattle.refusal.specs.Numbers.{sound}
 use Rattle.octets.proofs.Order.{either}
 use Rattle.seizing.specs.declared.Entry.{Entry}
 use Rattle.seizing.specs.declared.Sender.{Sender}
-use Rattle.seizing.specs.declared.Sent.{Sent}
 use Rattle.signalling.specs.Layout.{all_allowed}
-use Rattle.seizing.specs.Sender.{started, all_equal, is_quiet, run_after, after_sent, after_unsent, going_out, nothing_due}
+use Rattle.seizing.specs.Sender.{Sent, sender_from, all_equal, is_quiet, run_after, after_sent, after_unsent, going_out, resting}
 use Rattle.seizing.specs.Sender as defined
 use Rattle.seized.specs.Receiver.{fresh_receiver, farthest}
 use Rattle.replay.specs.Periods.{pay, range, fresh_of, Near}
@@ -36,8 +34,8 @@ module _ (s : Sender) (n : ℕ) (e : Entry) (es : List Entry) where
   sends : defined.sent s e ≡ going_out (after_sent s e) e.alarm → arrivals (emissions s n (e ∷ es)) ≡ n ∷ arrivals (emissions (after_sent s e) (suc n) es)
   sends is = on-answer (going_out (after_sent s e) e.alarm) is ∙ rw (raised s.last.0) refl
 
-  rests : defined.sent s e ≡ nothing_due (after_unsent s e) sound → arrivals (emissions s n (e ∷ es)) ≡ arrivals (emissions (after_unsent s e) n es)
-  rests is = on-answer (nothing_due (after_unsent s e) sound) is
+  rests : defined.sent s e ≡ resting (after_unsent s e) → arrivals (emissions s n (e ∷ es)) ≡ arrivals (emissions (after_unsent s e) n es)
+  rests is = on-answer (resting (after_unsent s e)) is
 
   repeated : defined.sent s e ≡ going_out (after_unsent s e) e.alarm → arrivals (emissions s n (e ∷ es)) ≡ (n - 1) ∷ arrivals (emissions (after_unsent s e) n es)
   repeated is = on-answer (going_out (after_unsent s e) e.alarm) is ∙ rw (eq-eqb s.last.0 s.last.0 refl) refl
@@ -125,7 +123,7 @@ numbers = range 0 25 ++ 24 ∷ range 25 160
 
 all-numbers : arrivals sent ≡ numbers
 all-numbers =
-    early 25 (started 0).sender 0 0 (replicate 249 still ++ ring ∷ replicate 160 pulse) (24 ∷ range 25 160) (record { before = refl; run = refl }) (omega arith)
+    early 25 (sender_from 0) 0 0 (replicate 249 still ++ ring ∷ replicate 160 pulse) (24 ∷ range 25 160) (record { before = refl; run = refl }) (omega arith)
     (λ t quiet.
     unsent 249 t 25 25 (ring ∷ replicate 160 pulse) (24 ∷ range 25 160) quiet (omega arith) (omega arith)
     (λ u quiet2.

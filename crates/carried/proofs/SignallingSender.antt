@@ -11,23 +11,23 @@ use borrow.Author.Tests.{lt-ltb, le-ltb, eq-eqb, ne_eqb}
 use lib.Dec.{eqb}
 use lib.ListN.{get_or, drop}
 use lib.Seq.{drop_at}
-use Rattle.refusal.specs.Numbers.{sound, value_out_of_range}
+use Rattle.std.specs.declared.result.Result.TheVariants.{Ok}
+use Rattle.refusal.specs.declared.Refusal.TheVariants.{ValueOutOfRange}
 use Rattle.octets.specs.Made.{Made, octets_of}
 use Rattle.octets.proofs.Order.{lt-or-le, either}
 use Rattle.counts.specs.Round.{onward}
 use Rattle.counts.proofs.Laws.{laws}
 use Rattle.seizing.specs.declared.Entry.{Entry}
 use Rattle.seizing.specs.declared.Sender.{Sender}
-use Rattle.seizing.specs.declared.Sent.{Sent}
-use Rattle.signalling.specs.Layout.{allowed, all_allowed, signalling_read, signalling_made}
-use Rattle.seizing.specs.Sender.{sender_from, started, is_quiet, windows_after, after_sent, after_unsent, payload_of, going_out, nothing_due, period, sent}
+use Rattle.signalling.specs.Layout.{all_allowed, signalling_read, signalling_made}
+use Rattle.seizing.specs.Sender.{Sent, sender_from, started, is_quiet, windows_after, after_sent, after_unsent, payload_of, going_out, resting, refused, period, sent}
 use Rattle.seizing.specs.Claims.{Proper}
-use Rattle.seizing.proofs.SenderCases.{refused}
+use Rattle.seizing.proofs.SenderCases as cases
 use Rattle.seizing.proofs.SenderBack.{sender-starts, sender-stays, payload-back}
 use Rattle.replay.specs.Periods.{pay}
 use Rattle.replay.proofs.Sublists.{Each, rising-from, Rising}
 use Rattle.carried.specs.Emissions.{Emission}
-use Rattle.carried.specs.Signalling.{tens, repeats, emitted, number_after, emissions, sent_of, sent_by, start_period, period_of, TenEach}
+use Rattle.carried.specs.Signalling.{tens, repeats, goes_out, octets_sent, emitted, number_after, emissions, sent_of, sent_by, start_period, period_of, TenEach}
 use Rattle.carried.proofs.Tens.{Three, tens-of}
 use Rattle.carried.proofs.SignallingRule.{read_payload}
 
@@ -46,7 +46,7 @@ module _ (s : Sender) (e : Entry) where
     unfolding sent period
     is-early q less = simp (fair, q, lt-ltb s.quiet 25 less)
 
-    pub is-resting : is_quiet s e ≡ true → 25 ≤ s.quiet → s.quiet < 274 → sent s e ≡ nothing_due (after_unsent s e) sound
+    pub is-resting : is_quiet s e ≡ true → 25 ≤ s.quiet → s.quiet < 274 → sent s e ≡ resting (after_unsent s e)
     unfolding sent period
     is-resting q more less = simp (fair, q, le-ltb s.quiet 25 more, lt-ltb s.quiet 274 less)
 
@@ -56,9 +56,9 @@ module _ (s : Sender) (e : Entry) where
 
   -- one of the four
   split : {A : Type 0}
-      → (sent s e ≡ nothing_due s value_out_of_range → A)
+      → (sent s e ≡ refused s ValueOutOfRange → A)
       → (sent s e ≡ going_out (after_sent s e) e.alarm → A)
-      → (0 < s.quiet → sent s e ≡ nothing_due (after_unsent s e) sound → A)
+      → (0 < s.quiet → sent s e ≡ resting (after_unsent s e) → A)
       → (0 < s.quiet → sent s e ≡ going_out (after_unsent s e) e.alarm → A)
       → A
   split bad sends rests repeated =
@@ -74,7 +74,7 @@ module _ (s : Sender) (e : Entry) where
       (λ q. sends (is-loud fair q))
       (is_quiet s e)
       refl)
-      (λ wrong. bad (refused s e wrong))
+      (λ wrong. bad (cases.wrong s e wrong))
       (all_allowed 10 0 e.samples)
       refl
 
@@ -198,29 +198,21 @@ module _ (P : ℕ → List ℕ) (start : List ℕ) where
   run-brings (e ∷ es) s n z u v ten-each stands ahead = entry-brings s n e es z u v (run-brings es) ten-each stands ahead
 
 -- the start: an allowed value
-begins-at : (start : ℕ) → (started start).number ≡ sound → (started start).sender ≡ sender_from start
-begins-at start e =
-    either (λ (yes : allowed start ≡ true). rw yes refl)
-    (λ (no : allowed start ≡ false). let wrong : value_out_of_range ≡ sound = rw no at e in absurd (omega arith))
-    (allowed start)
-    refl
-
-stands_at : (start : ℕ) → (started start).number ≡ sound → Stands (started start).sender 0 (start_period start) (start_period start) (start_period start)
-stands_at start e =
-    subst (λ (s : Sender). Stands s 0 (start_period start) (start_period start) (start_period start)) (sym (begins-at start e))
-    (record {
-      proper = subst Proper (begins-at start e) (sender-starts start);
+stands_at : (start : ℕ) → started start ≡ Ok (sender_from start) → Stands (sender_from start) 0 (start_period start) (start_period start) (start_period start)
+stands_at start begins =
+    record {
+      proper = sender-starts start (sender_from start) begins;
       ten = record { one = refl; two = refl; last = refl };
       windows = refl;
       number = refl;
       begun = λ (quiet : 0 < 0). quiet;
-    })
+    }
 
-pub all-bring : (start : ℕ) (entries : List Entry) → (started start).number ≡ sound → TenEach entries
-    → Each (Brings (period_of start entries)) (emissions (started start).sender 0 entries)
+pub all-bring : (start : ℕ) (entries : List Entry) → started start ≡ Ok (sender_from start) → TenEach entries
+    → Each (Brings (period_of start entries)) (emissions (sender_from start) 0 entries)
 all-bring start entries begins ten-each =
-    let ahead : List (List ℕ) = start_period start ∷ start_period start ∷ start_period start ∷ sent_by (started start).sender entries in
-    run-brings (λ (j : ℕ). get_or ahead j (start_period start)) (start_period start) entries (started start).sender 0 (start_period start)
+    let ahead : List (List ℕ) = start_period start ∷ start_period start ∷ start_period start ∷ sent_by (sender_from start) entries in
+    run-brings (λ (j : ℕ). get_or ahead j (start_period start)) (start_period start) entries (sender_from start) 0 (start_period start)
     (start_period start)
     (start_period start)
     ten-each
@@ -241,8 +233,8 @@ rise-on false repeated s n octets es r = r
 rise : (s : Sender) (n : ℕ) (es : List Entry) → Rising (n - 1) (numbers (emissions s n es))
 rise s n [] = tt
 rise s n (e ∷ es) =
-    rise-on (sent s e).due (repeats s (sent s e)) (sent s e).sender n (octets_of (signalling_made (sent s e).signalling)) es
+    rise-on (goes_out (sent s e).answer) (repeats s (sent s e)) (sent s e).sender n (octets_sent (sent s e).answer) es
     (rise (sent s e).sender (number_after s n (sent s e)) es)
 
-pub all-rise : (start : ℕ) (entries : List Entry) → Rising 0 (map (λ (p : Emission). p.number) (emissions (started start).sender 0 entries))
-all-rise start entries = rise (started start).sender 0 entries
+pub all-rise : (start : ℕ) (entries : List Entry) → Rising 0 (map (λ (p : Emission). p.number) (emissions (sender_from start) 0 entries))
+all-rise start entries = rise (sender_from start) 0 entries

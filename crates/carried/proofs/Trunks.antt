@@ -3,215 +3,167 @@
 use Prim.Native.Nat.{ℕ}
 use mathlib.Core.Path.{◌≡◌, refl, sym, ap, ap₂, ◌∙◌}
 use mathlib.Core.List.{List, [], ◌∷◌, ◌++◌}
-use mathlib.Core.Bool.{Bool, cond}
-use borrow.Author.Tests.{eqb-false}
-use lib.Dec.{eqb}
-use Rattle.refusal.specs.Numbers.{sound}
-use Rattle.record.specs.declared.table.Found.{Found}
-use Rattle.voice.specs.declared.VoiceRead.{VoiceRead}
-use Rattle.voice.specs.declared.VoiceRead.TheVariants.{Voice, BadVoice}
-use Rattle.sid.specs.declared.SidRead.{SidRead}
-use Rattle.sid.specs.declared.SidRead.TheVariants.{Silence, BadSid}
+use mathlib.Core.Bool.{Bool, true, false}
+use Rattle.std.specs.declared.option.Option.{Option}
+use Rattle.std.specs.declared.result.Result.{Result}
+use Rattle.std.specs.declared.result.Result.TheVariants.{Ok, Err}
+use Rattle.refusal.specs.declared.Refusal.{Refusal}
+use Rattle.record.specs.declared.syntax.Record.{Record}
+use Rattle.voice.specs.declared.Voice.{Voice}
 use Rattle.voice.specs.Voice.{voice_read}
 use Rattle.sid.specs.Sid.{sid_read}
-use Rattle.data.specs.declared.DataRead.{DataRead}
-use Rattle.data.specs.declared.DataRead.TheVariants.{Fragment, BadData}
 use Rattle.data.specs.Data.{data_read}
 use Rattle.faxing.specs.Replay as faxing
 use Rattle.digits.specs.declared.layout.Window.{Window}
 use Rattle.digits.specs.declared.layout.Digits.{Digits}
-use Rattle.digits.specs.declared.layout.DigitsRead.{DigitsRead}
-use Rattle.digits.specs.declared.layout.DigitsRead.TheVariants.{Dialled, BadDigits}
 use Rattle.digits.specs.Layout.{digits_read}
 use Rattle.signalling.specs.declared.layout.Signalling.{Signalling}
 use Rattle.signalling.specs.Layout.{signalling_read}
 use Rattle.dialled.specs.declared.Receiver as digit_receiver
-use Rattle.dialled.specs.declared.Received as digit-received
+use Rattle.dialled.specs.declared.Appended as dialled-appended
 use Rattle.dialled.specs.Receiver as dialled
-use Rattle.dialled.proofs.Older as digits-older
 use Rattle.seized.specs.declared.Receiver as signalling_receiver
-use Rattle.seized.specs.declared.Received as signalling_received
+use Rattle.seized.specs.declared.Appended as seized-appended
 use Rattle.seized.specs.Receiver as seized
-use Rattle.seized.proofs.Older as signalling-older
 use Rattle.payload.specs.declared.layout.Layout.{Layout}
-use Rattle.payload.specs.declared.layout.Layout.TheVariants.{OfVoice, OfDigits, OfSignalling, OfFax, OfSid, OfData, NoLayout}
+use Rattle.payload.specs.declared.layout.Layout.TheVariants.{OfVoice, OfDigits, OfSignalling, OfFax, OfSid, OfData}
 use Rattle.payload.specs.Layout.{layout_of}
-use Rattle.payload.specs.Content.{dialled, seized, reads, refused, payload_read, read_as, of_digits}
+use Rattle.payload.specs.Content.{dialled, seized, reads, read_by, of_digits, of_signalling}
 use Rattle.trunk.specs.declared.Trunk.{Trunk}
-use Rattle.trunk.specs.declared.Told.{Told}
-use Rattle.trunk.specs.Trunk.{fresh_trunk, dialled_to, digits_taken, seized_to, signalling_taken, voice_taken, sid_taken, data_taken, taken_as, taken}
-use Rattle.octets.proofs.Order.{picked}
-use Rattle.trunk.proofs.Cases.{as-layout}
+use Rattle.trunk.specs.Trunk.{Told, fresh_trunk, refusing, told_by, digits_taken, signalling_taken, voice_taken, taken_as, taken}
+use Rattle.trunk.proofs.Cases.{as-layout, dialled_stands, seized_stands}
 use Rattle.trunk.proofs.Leaves.{numbers}
 use Rattle.replay.specs.Periods.{Mark}
 use Rattle.carried.specs.Emissions.{Emission}
 use Rattle.carried.specs.Digits as digits
 use Rattle.carried.specs.Signalling as signalling
 use Rattle.carried.specs.Trunks.{Coming, came, other, payloads_of, tellings, numbers_in, dialled_marks, digit_marks, seized_marks, signalling_marks, NoDigits, NoSignalling, TrunkDigitsCarried, TrunkSignallingCarried}
-use Rattle.carried.proofs.DigitRule.{receiver_next}
 use Rattle.carried.proofs.Digits.{digits-carried}
 use Rattle.carried.proofs.Signalling.{signalling-carried}
 
--- A telling, as the digit receiver has it: these marks, and this receiver after it.
-pub record ToDigits (x : Told) (marks : List (Mark Window)) (after : digit_receiver.Receiver) : Type 0 where
-  pub appends : dialled_marks x.dialled ≡ marks
-  pub leaves : x.trunk.digits ≡ after
+-- A telling, as a receiver of the trunk has it: these marks in its record, and this receiver after it.
+pub record To {M R : Type 0} (marks : Told → List M) (part : Trunk → R) (x : Told) (appended : List M) (after : R) : Type 0 where
+  pub appends : marks x ≡ appended
+  pub leaves : part x.trunk ≡ after
+
+module _ {M R : Type 0} {marks : Told → List M} {part : Trunk → R} where
+  -- before what follows it
+  joined : {x : Told} {ms : List M} {r : R} (rest : Trunk → List M) (heard : R → List M) → To marks part x ms r → ((t : Trunk) → rest t ≡ heard (part t)) → marks x ++ rest x.trunk ≡ ms ++ heard r
+  joined {x} rest heard to is = ap₂ (λ (l m : List M). l ++ m) to.appends (is x.trunk ∙ ap heard to.leaves)
+
+  -- what is told of an answer, whether it is a refusal or not
+  by-answer :
+      {A : Type 0} {ms : List M} {r : R} (t : Trunk) (answer : Result A Refusal) (heard : A → Told)
+      → ((a : A) → answer ≡ Ok a → To marks part (heard a) ms r)
+      → ((refusal : Refusal) → answer ≡ Err refusal → To marks part (refusing t refusal) ms r)
+      → To marks part (told_by t answer heard) ms r
+  by-answer t (Ok a) heard ok err = ok a refl
+  by-answer t (Err refusal) heard ok err = err refusal refl
+
+-- the digit receiver
+abbrev ToDigits : Told → List (Mark Window) → digit_receiver.Receiver → Type 0
+ToDigits x ms r = To (λ (y : Told). dialled_marks y.answer) (λ (t : Trunk). t.digits) x ms r
 
 -- a payload of the sender
-from-digits : (t : Trunk) (p : List ℕ) → ToDigits (digits_taken t p) (digits.marks_of (dialled.received t.digits p)) (dialled.received t.digits p).receiver
+from-digits : (t : Trunk) (p : List ℕ) → ToDigits (digits_taken t p) (digits.marks_of (dialled.appended_in (dialled.received t.digits p))) (dialled.received t.digits p).receiver
 from-digits t p =
-    let got : digit-received.Received = dialled.received t.digits p in
-    picked (λ (x : Told). ToDigits x (digits.marks_of got) got.receiver) (eqb got.number sound) _ _ (λ e. record { appends = refl; leaves = refl })
-    (λ e.
-    let stands = (digits-older.older).stands t.digits p (eqb-false got.number sound e) in
-    record { appends = sym (ap digits.marks_of stands); leaves = sym (ap (λ (a : digit-received.Received). a.receiver) stands) })
+    by-answer t (dialled.received t.digits p).answer _ (λ a is. record { appends = rw is refl; leaves = refl })
+    (λ refusal is. record { appends = rw is refl; leaves = sym (dialled_stands p refusal t.digits is) })
 
--- what another payload is to the digit receiver: voice, or nothing
-abbrev voice_of : VoiceRead → List digits.Heard
-voice_of (Voice sequence coding front) = digits.voice ∷ []
-voice_of (BadVoice number) = []
+-- another payload is accepted voice to it, or nothing
+abbrev reads_voice : Result Voice Refusal → Bool
+reads_voice (Ok voice) = true
+reads_voice (Err refusal) = false
 
-abbrev heard_as : Layout → List ℕ → List digits.Heard
-heard_as (OfVoice r) p = voice_of (voice_read r p)
-heard_as OfDigits p = []
-heard_as OfSignalling p = []
-heard_as OfFax p = []
-heard_as (OfSid syntax) p = []
-heard_as OfData p = []
-heard_as (NoLayout number) p = []
+abbrev is_voice : Result Layout Refusal → List ℕ → Bool
+is_voice (Ok (OfVoice r)) p = reads_voice (voice_read r p)
+is_voice (Ok OfDigits) p = false
+is_voice (Ok OfSignalling) p = false
+is_voice (Ok OfFax) p = false
+is_voice (Ok (OfSid syntax)) p = false
+is_voice (Ok OfData) p = false
+is_voice (Err refusal) p = false
 
-abbrev receiver_by : digit_receiver.Receiver → List digits.Heard → digit_receiver.Receiver
-receiver_by r [] = r
-receiver_by r (h ∷ hs) = receiver_by (receiver_next r h) hs
+abbrev receiver_by : Bool → digit_receiver.Receiver → digit_receiver.Receiver
+receiver_by true r = dialled.voice_heard r
+receiver_by false r = r
 
-other-to-digits : (l : Layout) (t : Trunk) (p : List ℕ) → ((d : Digits) → read_as l p ≡ reads (dialled d) → ⊥) → ToDigits (taken_as l t p) [] (receiver_by t.digits (heard_as l p))
+-- a payload that does not read is not accepted
+no-windows : (r : digit_receiver.Receiver) (read : Result Digits Refusal) (a : dialled-appended.Appended) → ((d : Digits) → read ≡ Ok d → ⊥) → (dialled.received_by r read).answer ≡ Ok a → ⊥
+no-windows r (Ok d) a none is = none d refl
+no-windows r (Err refusal) a none is = cc
+
+other-to-digits : (l : Result Layout Refusal) (t : Trunk) (p : List ℕ) → ((d : Digits) → read_by l p ≡ reads (dialled d) → ⊥) → ToDigits (taken_as l t p) [] (receiver_by (is_voice l p) t.digits)
 unfolding dialled.received
-other-to-digits (OfVoice r) t p none = go (voice_read r p)
+other-to-digits (Ok (OfVoice r)) t p none = go (voice_read r p)
   where
-    go : (read : VoiceRead) → ToDigits (voice_taken t read) [] (receiver_by t.digits (voice_of read))
-    go (Voice sequence coding front) = record { appends = refl; leaves = refl }
-    go (BadVoice n) = record { appends = refl; leaves = refl }
-other-to-digits OfDigits t p none = go (digits_read p) refl
-  where
-    go : (read : DigitsRead) → digits_read p ≡ read → ToDigits (dialled_to t (dialled.received_by t.digits read)) [] t.digits
-    go (Dialled d) e = absurd (none d (ap of_digits e))
-    go (BadDigits n) e =
-        picked (λ (x : Told). ToDigits x [] t.digits) (eqb n sound) _ _ (λ e. record { appends = refl; leaves = refl }) (λ e. record { appends = refl; leaves = refl })
-other-to-digits OfSignalling t p none =
-    picked (λ (x : Told). ToDigits x [] t.digits) (eqb (seized.received t.signalling p).number sound) _ _ (λ e. record { appends = refl; leaves = refl })
-    (λ e. record { appends = refl; leaves = refl })
-other-to-digits OfFax t p none =
-    picked (λ (x : Told). ToDigits x [] t.digits) (eqb (faxing.received t.fax p).number sound) _ _ (λ e. record { appends = refl; leaves = refl })
-    (λ e. record { appends = refl; leaves = refl })
-other-to-digits (OfSid syntax) t p none = go (sid_read syntax p)
-  where
-    go : (read : SidRead) → ToDigits (sid_taken t read) [] t.digits
-    go (Silence sid) = record { appends = refl; leaves = refl }
-    go (BadSid n) = record { appends = refl; leaves = refl }
-other-to-digits OfData t p none = go (data_read p)
-  where
-    go : (read : DataRead) → ToDigits (data_taken t read) [] t.digits
-    go (Fragment begins ends sequence) = record { appends = refl; leaves = refl }
-    go (BadData n) = record { appends = refl; leaves = refl }
-other-to-digits (NoLayout n) t p none = record { appends = refl; leaves = refl }
+    go : (read : Result Voice Refusal) → ToDigits (voice_taken t read) [] (receiver_by (reads_voice read) t.digits)
+    go (Ok voice) = record { appends = refl; leaves = refl }
+    go (Err refusal) = record { appends = refl; leaves = refl }
+other-to-digits (Ok OfDigits) t p none =
+    by-answer t (dialled.received t.digits p).answer _ (λ a is. absurd (no-windows t.digits (digits_read p) a (λ d e. none d (ap of_digits e)) is)) (λ refusal is. record { appends = refl; leaves = refl })
+other-to-digits (Ok OfSignalling) t p none = by-answer t (seized.received t.signalling p).answer _ (λ a is. record { appends = refl; leaves = refl }) (λ refusal is. record { appends = refl; leaves = refl })
+other-to-digits (Ok OfFax) t p none = by-answer t (faxing.received t.fax p).answer _ (λ a is. record { appends = refl; leaves = refl }) (λ refusal is. record { appends = refl; leaves = refl })
+other-to-digits (Ok (OfSid syntax)) t p none = by-answer t (sid_read syntax p) _ (λ sid is. record { appends = refl; leaves = refl }) (λ refusal is. record { appends = refl; leaves = refl })
+other-to-digits (Ok OfData) t p none = by-answer t (data_read p) _ (λ fragment is. record { appends = refl; leaves = refl }) (λ refusal is. record { appends = refl; leaves = refl })
+other-to-digits (Err refusal) t p none = record { appends = refl; leaves = refl }
 
--- the run that the digit receiver hears
-abbrev heard_of : Found → Coming → List digits.Heard
-heard_of found (came p) = digits.came p ∷ []
-heard_of found (other ptype octets) = heard_as (layout_of found ptype) octets
+-- the run that it hears
+abbrev heard_before : Bool → List digits.Heard → List digits.Heard
+heard_before true hs = digits.voice ∷ hs
+heard_before false hs = hs
 
-abbrev run_of : Found → List Coming → List digits.Heard
+abbrev run_of : Option Record → List Coming → List digits.Heard
 run_of found [] = []
-run_of found (c ∷ cs) = heard_of found c ++ run_of found cs
+run_of found (came p ∷ cs) = digits.came p ∷ run_of found cs
+run_of found (other ptype octets ∷ cs) = heard_before (is_voice (layout_of found ptype) octets) (run_of found cs)
 
-others-silent : (l : Layout) (p : List ℕ) (r : digit_receiver.Receiver) (hs : List digits.Heard) → digits.answers r (heard_as l p ++ hs) ≡ digits.answers (receiver_by r (heard_as l p)) hs
-others-silent (OfVoice rec) p r hs = go (voice_read rec p)
-  where
-    go : (read : VoiceRead) → digits.answers r (voice_of read ++ hs) ≡ digits.answers (receiver_by r (voice_of read)) hs
-    go (Voice sequence coding front) = refl
-    go (BadVoice n) = refl
-others-silent OfDigits p r hs = refl
-others-silent OfSignalling p r hs = refl
-others-silent OfFax p r hs = refl
-others-silent (OfSid syntax) p r hs = refl
-others-silent OfData p r hs = refl
-others-silent (NoLayout n) p r hs = refl
+others-silent : (b : Bool) (r : digit_receiver.Receiver) (hs : List digits.Heard) → digits.answers (receiver_by b r) hs ≡ digits.answers r (heard_before b hs)
+others-silent true r hs = refl
+others-silent false r hs = refl
 
-others-no-payload : (l : Layout) (p : List ℕ) (hs : List digits.Heard) → digits.payloads_of (heard_as l p ++ hs) ≡ digits.payloads_of hs
-others-no-payload (OfVoice rec) p hs = go (voice_read rec p)
-  where
-    go : (read : VoiceRead) → digits.payloads_of (voice_of read ++ hs) ≡ digits.payloads_of hs
-    go (Voice sequence coding front) = refl
-    go (BadVoice n) = refl
-others-no-payload OfDigits p hs = refl
-others-no-payload OfSignalling p hs = refl
-others-no-payload OfFax p hs = refl
-others-no-payload (OfSid syntax) p hs = refl
-others-no-payload OfData p hs = refl
-others-no-payload (NoLayout n) p hs = refl
+others-no-payload : (b : Bool) (hs : List digits.Heard) → digits.payloads_of (heard_before b hs) ≡ digits.payloads_of hs
+others-no-payload true hs = refl
+others-no-payload false hs = refl
 
-same-payloads : (found : Found) (cs : List Coming) → digits.payloads_of (run_of found cs) ≡ payloads_of cs
+same-payloads : (found : Option Record) (cs : List Coming) → digits.payloads_of (run_of found cs) ≡ payloads_of cs
 same-payloads found [] = refl
 same-payloads found (came p ∷ cs) = ap (λ (ps : List Emission). p ∷ ps) (same-payloads found cs)
-same-payloads found (other ptype octets ∷ cs) = others-no-payload (layout_of found ptype) octets (run_of found cs) ∙ same-payloads found cs
+same-payloads found (other ptype octets ∷ cs) = others-no-payload (is_voice (layout_of found ptype) octets) (run_of found cs) ∙ same-payloads found cs
 
--- the record of what comes, by what is told, and of that run
-abbrev digit_record : Found → Trunk → List Coming → List (Mark Window)
-digit_record found t cs = digit_marks (tellings 1 found t cs)
+-- the record of what comes and the numbers, as they are told, are those of that run
+abbrev DigitsTold : Option Record → List Coming → Trunk → Type 0
+DigitsTold found cs t =
+    (digit_marks (tellings 1 found t cs) ≡ digits.marks_in (digits.answers t.digits (run_of found cs)))
+    × (numbers_in cs (tellings 1 found t cs) ≡ digits.numbers_in (digits.answers t.digits (run_of found cs)))
 
-abbrev heard_marks : digit_receiver.Receiver → List digits.Heard → List (Mark Window)
-heard_marks r hs = digits.marks_in (digits.answers r hs)
-
--- a telling before what follows it, as the digit receiver has both
-joined-digits : {x : Told} {ms : List (Mark Window)} {r : digit_receiver.Receiver} (found : Found) (cs : List Coming) → ToDigits x ms r
-    → ((t : Trunk) → digit_record found t cs ≡ heard_marks t.digits (run_of found cs))
-    → dialled_marks x.dialled ++ digit_record found x.trunk cs ≡ ms ++ heard_marks r (run_of found cs)
-joined-digits {x} {ms} {r} found cs to rest =
-    ap (λ (l : List (Mark Window)). dialled_marks x.dialled ++ l) (rest x.trunk)
-    ∙ ap (λ (q : digit_receiver.Receiver). dialled_marks x.dialled ++ heard_marks q (run_of found cs)) to.leaves
-    ∙ ap (λ (l : List (Mark Window)). l ++ heard_marks r (run_of found cs)) to.appends
-
-came-to-digits : (t : Trunk) (found : Found) (p : List ℕ) → layout_of found 1 ≡ OfDigits
-    → ToDigits (taken t found 1 p) (digits.marks_of (dialled.received t.digits p)) (dialled.received t.digits p).receiver
-came-to-digits t found p carries = rw (as-layout t found 1 p carries) (from-digits t p)
-
-other-comes-to-digits : (t : Trunk) (found : Found) (ptype : ℕ) (p : List ℕ) → ((d : Digits) → payload_read found ptype p ≡ reads (dialled d) → ⊥)
-    → ToDigits (taken t found ptype p) [] (receiver_by t.digits (heard_as (layout_of found ptype) p))
-other-comes-to-digits t found ptype p none = rw (as-layout t found ptype p refl) (other-to-digits (layout_of found ptype) t p none)
-
-digit-record-is : (found : Found) → layout_of found 1 ≡ OfDigits → (cs : List Coming) → NoDigits found cs → (t : Trunk) → digit_record found t cs ≡ heard_marks t.digits (run_of found cs)
-digit-record-is found carries [] none t = refl
-digit-record-is found carries (came p ∷ cs) none t =
-    joined-digits found cs (came-to-digits t found p.octets carries) (digit-record-is found carries cs none)
-digit-record-is found carries (other ptype octets ∷ cs) none t =
-    joined-digits found cs (other-comes-to-digits t found ptype octets none.0)
-    (digit-record-is found carries cs none.1)
-    ∙ ap digits.marks_in (sym (others-silent (layout_of found ptype) octets t.digits (run_of found cs)))
-
--- and the numbers
-abbrev digit_numbers : digit_receiver.Receiver → List digits.Heard → List ℕ
-digit_numbers r hs = digits.numbers_in (digits.answers r hs)
-
-digit-numbers-are : (found : Found) → layout_of found 1 ≡ OfDigits → (cs : List Coming) → NoDigits found cs → (t : Trunk) → numbers_in cs (tellings 1 found t cs) ≡ digit_numbers t.digits (run_of found cs)
-digit-numbers-are found carries [] none t = refl
-digit-numbers-are found carries (came p ∷ cs) none t =
-    let next = (taken t found 1 p.octets).trunk in
-    ap₂ (λ (n : ℕ) (ns : List ℕ). n ∷ ns) (numbers.digits t found 1 p.octets carries) (digit-numbers-are found carries cs none next)
-    ∙ ap (λ (q : digit_receiver.Receiver). (dialled.received t.digits p.octets).number ∷ digit_numbers q (run_of found cs)) (came-to-digits t found p.octets carries).leaves
-digit-numbers-are found carries (other ptype octets ∷ cs) none t =
-    digit-numbers-are found carries cs none.1 (taken t found ptype octets).trunk
-    ∙ ap (λ (q : digit_receiver.Receiver). digit_numbers q (run_of found cs)) (other-comes-to-digits t found ptype octets none.0).leaves
-    ∙ ap digits.numbers_in (sym (others-silent (layout_of found ptype) octets t.digits (run_of found cs)))
+digits-told : (found : Option Record) → layout_of found 1 ≡ Ok OfDigits → (cs : List Coming) → NoDigits found cs → (t : Trunk) → DigitsTold found cs t
+digits-told found carries [] none t = (refl, refl)
+digits-told found carries (came p ∷ cs) none t =
+    let x = taken t found 1 p.octets in
+    let got = dialled.received t.digits p.octets in
+    let to : ToDigits x (digits.marks_of (dialled.appended_in got)) got.receiver = rw (as-layout t found 1 p.octets carries) (from-digits t p.octets) in
+    let rest = digits-told found carries cs none in (
+      joined (λ u. digit_marks (tellings 1 found u cs)) (λ r. digits.marks_in (digits.answers r (run_of found cs))) to (λ u. (rest u).0),
+      ap₂ (λ (n : ℕ) (ns : List ℕ). n ∷ ns) (numbers.digits t found 1 p.octets carries) ((rest x.trunk).1 ∙ ap (λ (r : digit_receiver.Receiver). digits.numbers_in (digits.answers r (run_of found cs))) to.leaves),
+    )
+digits-told found carries (other ptype octets ∷ cs) none t =
+    let x = taken t found ptype octets in
+    let l = layout_of found ptype in
+    let to : ToDigits x [] (receiver_by (is_voice l octets) t.digits) = rw (as-layout t found ptype octets refl) (other-to-digits l t octets none.0) in
+    let silent = others-silent (is_voice l octets) t.digits (run_of found cs) in
+    let rest = digits-told found carries cs none.1 in (
+      joined (λ u. digit_marks (tellings 1 found u cs)) (λ r. digits.marks_in (digits.answers r (run_of found cs))) to (λ u. (rest u).0) ∙ ap digits.marks_in silent,
+      (rest x.trunk).1 ∙ ap (λ (r : digit_receiver.Receiver). digits.numbers_in (digits.answers r (run_of found cs))) to.leaves ∙ ap digits.numbers_in silent,
+    )
 
 pub trunk-digits-carried : TrunkDigitsCarried
 trunk-digits-carried found entries one two given =
-    let is1 = digit-record-is found given.carries one given.others fresh_trunk in
-    let is2 = digit-record-is found given.carries two given.others2 fresh_trunk in
-    let n1 = digit-numbers-are found given.carries one given.others fresh_trunk in
-    let n2 = digit-numbers-are found given.carries two given.others2 fresh_trunk in
+    let told = digits-told found given.carries one given.others fresh_trunk in
+    let told2 = digits-told found given.carries two given.others2 fresh_trunk in
     let p1 = same-payloads found one in
     let p2 = same-payloads found two in
-    rw (is1, is2, n1, n2, ← p1, ← p2)
+    rw (told.0, told2.0, told.1, told2.1, ← p1, ← p2)
     (digits-carried entries (run_of found one) (run_of found two)
     (record {
       some = rw p1 given.some;
@@ -221,105 +173,61 @@ trunk-digits-carried found entries one two given =
       more = rw (p1, p2) given.more;
     }))
 
--- A telling, as the signalling receiver has it.
-pub record ToSignalling (x : Told) (marks : List (Mark (List ℕ))) (after : signalling_receiver.Receiver) : Type 0 where
-  pub appends : seized_marks x.seized ≡ marks
-  pub leaves : x.trunk.signalling ≡ after
+-- the signalling receiver
+abbrev ToSignalling : Told → List (Mark (List ℕ)) → signalling_receiver.Receiver → Type 0
+ToSignalling x ms r = To (λ (y : Told). seized_marks y.answer) (λ (t : Trunk). t.signalling) x ms r
 
--- a refused payload, whatever its number
-passed-to-signalling : (t : Trunk) (n : ℕ) → ToSignalling (seized_to t (seized.passed_over t.signalling n)) [] t.signalling
-passed-to-signalling t n =
-    picked (λ (x : Told). ToSignalling x [] t.signalling) (eqb n sound) _ _ (λ e. record { appends = refl; leaves = refl }) (λ e. record { appends = refl; leaves = refl })
-
-from-signalling : (t : Trunk) (p : List ℕ) → ToSignalling (signalling_taken t p) (signalling.marks_of (seized.received t.signalling p)) (seized.received t.signalling p).receiver
+from-signalling : (t : Trunk) (p : List ℕ) → ToSignalling (signalling_taken t p) (signalling.marks_of (seized.appended_in (seized.received t.signalling p))) (seized.received t.signalling p).receiver
 from-signalling t p =
-    let got : signalling_received.Received = seized.received t.signalling p in
-    picked (λ (x : Told). ToSignalling x (signalling.marks_of got) got.receiver) (eqb got.number sound) _ _ (λ e. record { appends = refl; leaves = refl })
-    (λ e.
-    let stands = (signalling-older.older).stands t.signalling p (eqb-false got.number sound e) in
-    record { appends = sym (ap signalling.marks_of stands); leaves = sym (ap (λ (a : signalling_received.Received). a.receiver) stands) })
+    by-answer t (seized.received t.signalling p).answer _ (λ a is. record { appends = rw is refl; leaves = refl })
+    (λ refusal is. record { appends = rw is refl; leaves = sym (seized_stands p refusal t.signalling is) })
 
-other-to-signalling : (l : Layout) (t : Trunk) (p : List ℕ) → ((s : Signalling) → read_as l p ≡ reads (seized s) → ⊥) → ToSignalling (taken_as l t p) [] t.signalling
+-- a payload that does not read is not accepted
+no-samples : (r : signalling_receiver.Receiver) (read : Result Signalling Refusal) (a : seized-appended.Appended) → ((s : Signalling) → read ≡ Ok s → ⊥) → (seized.received_by r read).answer ≡ Ok a → ⊥
+no-samples r (Ok s) a none is = none s refl
+no-samples r (Err refusal) a none is = cc
+
+other-to-signalling : (l : Result Layout Refusal) (t : Trunk) (p : List ℕ) → ((s : Signalling) → read_by l p ≡ reads (seized s) → ⊥) → ToSignalling (taken_as l t p) [] t.signalling
 unfolding seized.received
-other-to-signalling (OfVoice r) t p none = go (voice_read r p)
-  where
-    go : (read : VoiceRead) → ToSignalling (voice_taken t read) [] t.signalling
-    go (Voice sequence coding front) = record { appends = refl; leaves = refl }
-    go (BadVoice n) = record { appends = refl; leaves = refl }
-other-to-signalling OfDigits t p none =
-    picked (λ (x : Told). ToSignalling x [] t.signalling) (eqb (dialled.received t.digits p).number sound) _ _ (λ e. record { appends = refl; leaves = refl })
-    (λ e. record { appends = refl; leaves = refl })
-other-to-signalling OfSignalling t p none =
-    picked (λ (got : signalling_received.Received). ToSignalling (seized_to t got) [] t.signalling) (eqb (signalling_read p).number sound) _ _
-    (λ e. absurd (none (signalling_read p).signalling (ap (λ (b : Bool). cond b (reads (seized (signalling_read p).signalling)) (refused (signalling_read p).number)) e)))
-    (λ e. passed-to-signalling t (signalling_read p).number)
-other-to-signalling OfFax t p none =
-    picked (λ (x : Told). ToSignalling x [] t.signalling) (eqb (faxing.received t.fax p).number sound) _ _ (λ e. record { appends = refl; leaves = refl })
-    (λ e. record { appends = refl; leaves = refl })
-other-to-signalling (OfSid syntax) t p none = go (sid_read syntax p)
-  where
-    go : (read : SidRead) → ToSignalling (sid_taken t read) [] t.signalling
-    go (Silence sid) = record { appends = refl; leaves = refl }
-    go (BadSid n) = record { appends = refl; leaves = refl }
-other-to-signalling OfData t p none = go (data_read p)
-  where
-    go : (read : DataRead) → ToSignalling (data_taken t read) [] t.signalling
-    go (Fragment begins ends sequence) = record { appends = refl; leaves = refl }
-    go (BadData n) = record { appends = refl; leaves = refl }
-other-to-signalling (NoLayout n) t p none = record { appends = refl; leaves = refl }
+other-to-signalling (Ok (OfVoice r)) t p none = by-answer t (voice_read r p) _ (λ voice is. record { appends = refl; leaves = refl }) (λ refusal is. record { appends = refl; leaves = refl })
+other-to-signalling (Ok OfDigits) t p none = by-answer t (dialled.received t.digits p).answer _ (λ a is. record { appends = refl; leaves = refl }) (λ refusal is. record { appends = refl; leaves = refl })
+other-to-signalling (Ok OfSignalling) t p none =
+    by-answer t (seized.received t.signalling p).answer _ (λ a is. absurd (no-samples t.signalling (signalling_read p) a (λ s e. none s (ap of_signalling e)) is)) (λ refusal is. record { appends = refl; leaves = refl })
+other-to-signalling (Ok OfFax) t p none = by-answer t (faxing.received t.fax p).answer _ (λ a is. record { appends = refl; leaves = refl }) (λ refusal is. record { appends = refl; leaves = refl })
+other-to-signalling (Ok (OfSid syntax)) t p none = by-answer t (sid_read syntax p) _ (λ sid is. record { appends = refl; leaves = refl }) (λ refusal is. record { appends = refl; leaves = refl })
+other-to-signalling (Ok OfData) t p none = by-answer t (data_read p) _ (λ fragment is. record { appends = refl; leaves = refl }) (λ refusal is. record { appends = refl; leaves = refl })
+other-to-signalling (Err refusal) t p none = record { appends = refl; leaves = refl }
 
--- the record of what comes, by what is told, and of a run
-abbrev signalling_record : Found → Trunk → List Coming → List (Mark (List ℕ))
-signalling_record found t cs = signalling_marks (tellings 2 found t cs)
+-- the record of what comes and the numbers, as they are told, are those of the sender's payloads alone
+abbrev SignallingTold : Option Record → List Coming → Trunk → Type 0
+SignallingTold found cs t =
+    (signalling_marks (tellings 2 found t cs) ≡ signalling.marks_in (signalling.answers t.signalling (payloads_of cs)))
+    × (numbers_in cs (tellings 2 found t cs) ≡ signalling.numbers_in (signalling.answers t.signalling (payloads_of cs)))
 
-abbrev come_marks : signalling_receiver.Receiver → List Emission → List (Mark (List ℕ))
-come_marks r ps = signalling.marks_in (signalling.answers r ps)
-
-joined-signalling : {x : Told} {ms : List (Mark (List ℕ))} {r : signalling_receiver.Receiver} (found : Found) (cs : List Coming) → ToSignalling x ms r
-    → ((t : Trunk) → signalling_record found t cs ≡ come_marks t.signalling (payloads_of cs))
-    → seized_marks x.seized ++ signalling_record found x.trunk cs ≡ ms ++ come_marks r (payloads_of cs)
-joined-signalling {x} {ms} {r} found cs to rest =
-    ap (λ (l : List (Mark (List ℕ))). seized_marks x.seized ++ l) (rest x.trunk)
-    ∙ ap (λ (q : signalling_receiver.Receiver). seized_marks x.seized ++ come_marks q (payloads_of cs)) to.leaves
-    ∙ ap (λ (l : List (Mark (List ℕ))). l ++ come_marks r (payloads_of cs)) to.appends
-
-came-to-signalling : (t : Trunk) (found : Found) (p : List ℕ) → layout_of found 2 ≡ OfSignalling
-    → ToSignalling (taken t found 2 p) (signalling.marks_of (seized.received t.signalling p)) (seized.received t.signalling p).receiver
-came-to-signalling t found p carries = rw (as-layout t found 2 p carries) (from-signalling t p)
-
-other-comes-to-signalling : (t : Trunk) (found : Found) (ptype : ℕ) (p : List ℕ) → ((s : Signalling) → payload_read found ptype p ≡ reads (seized s) → ⊥)
-    → ToSignalling (taken t found ptype p) [] t.signalling
-other-comes-to-signalling t found ptype p none = rw (as-layout t found ptype p refl) (other-to-signalling (layout_of found ptype) t p none)
-
-signalling-record-is : (found : Found) → layout_of found 2 ≡ OfSignalling → (cs : List Coming) → NoSignalling found cs → (t : Trunk) → signalling_record found t cs ≡ come_marks t.signalling (payloads_of cs)
-signalling-record-is found carries [] none t = refl
-signalling-record-is found carries (came p ∷ cs) none t =
-    joined-signalling found cs (came-to-signalling t found p.octets carries)
-    (signalling-record-is found carries cs none)
-signalling-record-is found carries (other ptype octets ∷ cs) none t =
-    joined-signalling found cs (other-comes-to-signalling t found ptype octets none.0)
-    (signalling-record-is found carries cs none.1)
-
-abbrev signalling_numbers : signalling_receiver.Receiver → List Emission → List ℕ
-signalling_numbers r ps = signalling.numbers_in (signalling.answers r ps)
-
-signalling-numbers-are : (found : Found) → layout_of found 2 ≡ OfSignalling → (cs : List Coming) → NoSignalling found cs → (t : Trunk) → numbers_in cs (tellings 2 found t cs) ≡ signalling_numbers t.signalling (payloads_of cs)
-signalling-numbers-are found carries [] none t = refl
-signalling-numbers-are found carries (came p ∷ cs) none t =
-    let next = (taken t found 2 p.octets).trunk in
-    ap₂ (λ (n : ℕ) (ns : List ℕ). n ∷ ns) (numbers.signalling t found 2 p.octets carries) (signalling-numbers-are found carries cs none next)
-    ∙ ap (λ (q : signalling_receiver.Receiver). (seized.received t.signalling p.octets).number ∷ signalling_numbers q (payloads_of cs)) (came-to-signalling t found p.octets carries).leaves
-signalling-numbers-are found carries (other ptype octets ∷ cs) none t =
-    signalling-numbers-are found carries cs none.1 (taken t found ptype octets).trunk
-    ∙ ap (λ (q : signalling_receiver.Receiver). signalling_numbers q (payloads_of cs)) (other-comes-to-signalling t found ptype octets none.0).leaves
+signalling-told : (found : Option Record) → layout_of found 2 ≡ Ok OfSignalling → (cs : List Coming) → NoSignalling found cs → (t : Trunk) → SignallingTold found cs t
+signalling-told found carries [] none t = (refl, refl)
+signalling-told found carries (came p ∷ cs) none t =
+    let x = taken t found 2 p.octets in
+    let got = seized.received t.signalling p.octets in
+    let to : ToSignalling x (signalling.marks_of (seized.appended_in got)) got.receiver = rw (as-layout t found 2 p.octets carries) (from-signalling t p.octets) in
+    let rest = signalling-told found carries cs none in (
+      joined (λ u. signalling_marks (tellings 2 found u cs)) (λ r. signalling.marks_in (signalling.answers r (payloads_of cs))) to (λ u. (rest u).0),
+      ap₂ (λ (n : ℕ) (ns : List ℕ). n ∷ ns) (numbers.signalling t found 2 p.octets carries) ((rest x.trunk).1 ∙ ap (λ (r : signalling_receiver.Receiver). signalling.numbers_in (signalling.answers r (payloads_of cs))) to.leaves),
+    )
+signalling-told found carries (other ptype octets ∷ cs) none t =
+    let x = taken t found ptype octets in
+    let l = layout_of found ptype in
+    let to : ToSignalling x [] t.signalling = rw (as-layout t found ptype octets refl) (other-to-signalling l t octets none.0) in
+    let rest = signalling-told found carries cs none.1 in (
+      joined (λ u. signalling_marks (tellings 2 found u cs)) (λ r. signalling.marks_in (signalling.answers r (payloads_of cs))) to (λ u. (rest u).0),
+      (rest x.trunk).1 ∙ ap (λ (r : signalling_receiver.Receiver). signalling.numbers_in (signalling.answers r (payloads_of cs))) to.leaves,
+    )
 
 pub trunk-signalling-carried : TrunkSignallingCarried
 trunk-signalling-carried found start entries one two given =
-    let is1 = signalling-record-is found given.carries one given.others fresh_trunk in
-    let is2 = signalling-record-is found given.carries two given.others2 fresh_trunk in
-    let n1 = signalling-numbers-are found given.carries one given.others fresh_trunk in
-    let n2 = signalling-numbers-are found given.carries two given.others2 fresh_trunk in
-    rw (is1, is2, n1, n2)
+    let told = signalling-told found given.carries one given.others fresh_trunk in
+    let told2 = signalling-told found given.carries two given.others2 fresh_trunk in
+    rw (told.0, told2.0, told.1, told2.1)
     (signalling-carried start entries (payloads_of one) (payloads_of two)
     (record {
       begins = given.begins;

@@ -1,45 +1,46 @@
 -- Demand 3 for digits, as document 02, wish 3, reads it: what two fresh receivers answer and have in their records when payloads of
 -- one sender arrive, through the octets of the payloads. Proved in proofs/Digits.antt, by the replay theorem.
 --
--- It holds of the code by the contracts, as Tied.antt says: `sending` is what `dialling::send` answers, `digits_made` is
--- what `digits::layout::put_digits` writes, `received` is what `dialled::receive` answers, `voice_heard` is what
--- `dialled::hear_voice` returns, and `fresh_sender` and `fresh_receiver` are what the two `fresh` return.
-use Rattle.std.specs.Prelude.{ℕ, suc, List, [], ◌∷◌, ◌++◌, map, get_or, take, replicate}
+-- It holds of the code by the contracts, as Tied.antt says: `sending` is what `dialling::Sender::send` answers and leaves in
+-- the sender, `digits_made` is what `digits::layout::put_digits` writes, `received` is what `dialled::Receiver::receive` answers and
+-- leaves in the receiver, `voice_heard` is what `dialled::Receiver::hear_voice` leaves in it, and `fresh_sender` and `fresh_receiver`
+-- are what the two `fresh` return.
+use Rattle.std.specs.Prelude.{ℕ, suc, List, [], ◌∷◌, ◌++◌, map, get_or, take, replicate, Option, Some, None, Result, Ok, Err}
+use Rattle.refusal.specs.declared.Refusal.{Refusal}
 use Rattle.octets.specs.Made.{octets_of}
 use Rattle.digits.specs.declared.layout.Window.{Window}
+use Rattle.digits.specs.declared.layout.Digits.{Digits}
 use Rattle.dialling.specs.declared.Entry.{Entry}
 use Rattle.dialling.specs.declared.Sender.{Sender}
-use Rattle.dialling.specs.declared.Sending.{Sending}
-use Rattle.dialling.specs.declared.Sending.TheVariants.{BadEntry, Unsent, Sent}
 use Rattle.dialled.specs.declared.Receiver.{Receiver}
-use Rattle.dialled.specs.declared.Received.{Received}
+use Rattle.dialled.specs.declared.Appended.{Appended}
 use Rattle.digits.specs.Layout.{off_window, digits_made}
 use Rattle.dialling.specs.Sender.{fresh_sender, window_in, sending}
-use Rattle.dialled.specs.Receiver.{fresh_receiver, farthest, received, voice_heard}
+use Rattle.dialled.specs.Receiver.{Received, fresh_receiver, farthest, number_in, appended_in, received, voice_heard}
 use Rattle.replay.specs.Periods.{Mark, filled, carried, fresh_of, Near, Among, Sublist, AllIn}
 use Rattle.replay.specs.Claims.{Arriving, BothReplay, BothTake}
 use Rattle.carried.specs.Emissions.{Emission}
 
 -- The sender's run over its entries, where n periods were sent before. An entry that is refused is no period; "Unsent periods
 -- have no number."
-abbrev pub number_after : ℕ → Sending → ℕ
-number_after n (Sent d) = suc n
-number_after n Unsent = n
-number_after n (BadEntry refusal) = n
+abbrev pub number_after : ℕ → Result (Option Digits) Refusal → ℕ
+number_after n (Ok (Some d)) = suc n
+number_after n (Ok None) = n
+number_after n (Err refusal) = n
 
 -- what leaves at an answer, with these octets
-abbrev pub emitted_as : ℕ → Sending → List ℕ → List Emission
-emitted_as n (Sent d) octets = record { number = n; octets = octets } ∷ []
-emitted_as n Unsent octets = []
-emitted_as n (BadEntry refusal) octets = []
+abbrev pub emitted_as : ℕ → Result (Option Digits) Refusal → List ℕ → List Emission
+emitted_as n (Ok (Some d)) octets = record { number = n; octets = octets } ∷ []
+emitted_as n (Ok None) octets = []
+emitted_as n (Err refusal) octets = []
 
 -- and the octets: those that the payload is written as
-abbrev pub octets_sent : Sending → List ℕ
-octets_sent (Sent d) = octets_of (digits_made d)
-octets_sent Unsent = []
-octets_sent (BadEntry refusal) = []
+abbrev pub octets_sent : Result (Option Digits) Refusal → List ℕ
+octets_sent (Ok (Some d)) = octets_of (digits_made d)
+octets_sent (Ok None) = []
+octets_sent (Err refusal) = []
 
-abbrev pub emitted : ℕ → Sending → List Emission
+abbrev pub emitted : ℕ → Result (Option Digits) Refusal → List Emission
 emitted n answer = emitted_as n answer (octets_sent answer)
 
 abbrev pub emissions : Sender → ℕ → List Entry → List Emission
@@ -47,10 +48,10 @@ emissions s n [] = []
 emissions s n (e ∷ es) = emitted n (sending s e).answer ++ emissions (sending s e).sender (number_after n (sending s e).answer) es
 
 -- The periods that it sends: off or on with code, and the edge, of the entry.
-abbrev pub sent_of : Sending → Entry → List Window
-sent_of (Sent d) e = window_in e ∷ []
-sent_of Unsent e = []
-sent_of (BadEntry refusal) e = []
+abbrev pub sent_of : Result (Option Digits) Refusal → Entry → List Window
+sent_of (Ok (Some d)) e = window_in e ∷ []
+sent_of (Ok None) e = []
+sent_of (Err refusal) e = []
 
 abbrev pub sent_by : Sender → List Entry → List Window
 sent_by s [] = []
@@ -82,14 +83,14 @@ answers r (came p ∷ hs) = received r p.octets ∷ answers (received r p.octets
 answers r (voice ∷ hs) = answers (voice_heard r) hs
 
 abbrev pub numbers_in : List Received → List ℕ
-numbers_in xs = map (λ (a : Received). a.number) xs
+numbers_in xs = map (λ (x : Received). number_in x) xs
 
-abbrev pub marks_of : Received → List (Mark Window)
+abbrev pub marks_of : Appended → List (Mark Window)
 marks_of a = replicate a.fills (filled a.fill) ++ map carried (take a.carried a.periods)
 
 abbrev pub marks_in : List Received → List (Mark Window)
 marks_in [] = []
-marks_in (a ∷ xs) = marks_of a ++ marks_in xs
+marks_in (x ∷ xs) = marks_of (appended_in x) ++ marks_in xs
 
 -- "Older ones mixed in, .. 1 to 128 periods behind the last fresh one"
 abbrev pub most_behind : ℕ

@@ -1,13 +1,13 @@
 -- Which digit periods are sent, over any run of entries and told by the entries alone (document 01, "Senders, per 20 ms"): "A
 -- period is sent when it is on or changes, or is one of the three periods after such a one". Proved in proofs/DigitsSent.antt,
 -- from `SentExactly` of dialling/specs/SenderClaims.antt, which tells changes by what the sender holds.
-use Rattle.std.specs.Prelude.{ℕ, suc, ◌≡◌, List, [], ◌∷◌, map, Bool, true, false, not, cond, eqb}
+use Rattle.std.specs.Prelude.{ℕ, suc, ◌≡◌, List, [], ◌∷◌, map, Bool, true, false, not, cond, eqb, Option, Some, None, Result, Ok, Err}
+use Rattle.refusal.specs.declared.Refusal.{Refusal}
 use Rattle.refusal.specs.Order.{◌or◌}
 use Rattle.levels.specs.Level.{code_of}
+use Rattle.digits.specs.declared.layout.Digits.{Digits}
 use Rattle.digits.specs.Layout.{window_wrong, level_low}
 use Rattle.dialling.specs.declared.Entry.{Entry}
-use Rattle.dialling.specs.declared.Sending.{Sending}
-use Rattle.dialling.specs.declared.Sending.TheVariants.{BadEntry, Unsent, Sent}
 use Rattle.dialling.specs.Sender.{fresh_sender, window_in}
 use Rattle.dialling.specs.SenderClaims.{answers, sent_periods, near_loud}
 
@@ -37,10 +37,10 @@ abbrev pub louds : ℕ → List Entry → List Bool
 louds before [] = []
 louds before (e ∷ es) = cond (refused_from before e) (louds before es) (loud_from before e ∷ louds (tone_of e) es)
 
-abbrev pub is_refused : Sending → Bool
-is_refused (BadEntry number) = true
-is_refused Unsent = false
-is_refused (Sent d) = false
+abbrev pub is_refused : Result (Option Digits) Refusal → Bool
+is_refused (Err refusal) = true
+is_refused (Ok None) = false
+is_refused (Ok (Some d)) = false
 
 -- "Start state: off." Those entries are refused and no others, and a period is sent exactly when it or one of the three before it
 -- is on or changes.

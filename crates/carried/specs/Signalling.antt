@@ -1,47 +1,58 @@
 -- Demand 3 for signalling (seizure bits), as document 02, wish 3, reads it: what two fresh receivers answer and have in their records
 -- when payloads of one sender arrive, through the octets of the payloads. Proved in proofs/Signalling.antt, by the replay theorem.
 --
--- It holds of the code by the contracts, as Tied.antt says: `started` is what `seizing::start` answers, `sent` is what
--- `seizing::send` answers, `signalling_made` is what `signalling::layout::put_signalling` writes, `received` is what
--- `seized::receive` answers, and `fresh_receiver` is what `seized::fresh` returns.
-use Rattle.std.specs.Prelude.{ℕ, suc, ◌-◌, ◌≡◌, List, [], ◌∷◌, ◌++◌, map, Bool, cond, eqb, length, get_or, take, drop, replicate}
-use Rattle.refusal.specs.Numbers.{sound}
+-- It holds of the code by the contracts, as Tied.antt says: `started` is what `seizing::Sender::start` answers, `sent` is what
+-- `seizing::Sender::send` answers and leaves in the sender, `signalling_made` is what `signalling::layout::put_signalling` writes,
+-- `received` is what `seized::Receiver::receive` answers and leaves in the receiver, and `fresh_receiver` is what
+-- `seized::Receiver::fresh` returns.
+use Rattle.std.specs.Prelude.{ℕ, suc, ◌-◌, ◌≡◌, List, [], ◌∷◌, ◌++◌, map, Bool, true, false, cond, eqb, length, get_or, take, drop, replicate, Option, Some, None, Result, Ok, Err}
+use Rattle.refusal.specs.declared.Refusal.{Refusal}
 use Rattle.octets.specs.Made.{octets_of}
+use Rattle.signalling.specs.declared.layout.Signalling.{Signalling}
 use Rattle.seizing.specs.declared.Entry.{Entry}
 use Rattle.seizing.specs.declared.Sender.{Sender}
-use Rattle.seizing.specs.declared.Sent.{Sent}
 use Rattle.seized.specs.declared.Receiver.{Receiver}
-use Rattle.seized.specs.declared.Received.{Received}
+use Rattle.seized.specs.declared.Appended.{Appended}
 use Rattle.signalling.specs.Layout.{signalling_made}
-use Rattle.seizing.specs.Sender.{started, sent}
-use Rattle.seized.specs.Receiver.{fresh_receiver, farthest, received}
+use Rattle.seizing.specs.Sender.{Sent, sender_from, started, sent}
+use Rattle.seized.specs.Receiver.{Received, fresh_receiver, farthest, number_in, appended_in, received}
 use Rattle.replay.specs.Periods.{Mark, filled, carried, fresh_of, Near, Among, Sublist, AllIn}
 use Rattle.replay.specs.Claims.{Arriving, BothReplay, BothTake}
 use Rattle.carried.specs.Emissions.{Emission}
 
 -- "the last payload is repeated .., sequence unchanged", where "Each sent period raises the sequence by one".
 abbrev pub repeats : Sender → Sent → Bool
-repeats s answer = eqb answer.sender.last.0 s.last.0
+repeats s out = eqb out.sender.last.0 s.last.0
 
--- The sender's run over its entries, where n periods were sent before. Where nothing is due, the entry is refused and is no
+-- whether a payload goes out at an answer, and the octets that it is written as
+abbrev pub goes_out : Result (Option Signalling) Refusal → Bool
+goes_out (Ok (Some d)) = true
+goes_out (Ok None) = false
+goes_out (Err refusal) = false
+
+abbrev pub octets_sent : Result (Option Signalling) Refusal → List ℕ
+octets_sent (Ok (Some d)) = octets_of (signalling_made d)
+octets_sent (Ok None) = []
+octets_sent (Err refusal) = []
+
+-- The sender's run over its entries, where n periods were sent before. Where nothing goes out, the entry is refused and is no
 -- period, or its period is not sent: "Unsent periods have no number." A sent period has the number n; "a static repeat counts
--- as the payload it repeats", the last that was sent. What leaves at an answer, with these octets:
+-- as the payload it repeats", the last that was sent. What leaves, with these octets:
 abbrev pub emitted_as : Sender → ℕ → Sent → List ℕ → List Emission
-emitted_as s n answer octets =
-    cond answer.due
+emitted_as s n out octets =
+    cond (goes_out out.answer)
     (record {
-      number = cond (repeats s answer) (n - 1) n;
+      number = cond (repeats s out) (n - 1) n;
       octets = octets;
     }
     ∷ [])
     []
 
--- and with those that the payload is written as
 abbrev pub emitted : Sender → ℕ → Sent → List Emission
-emitted s n answer = emitted_as s n answer (octets_of (signalling_made answer.signalling))
+emitted s n out = emitted_as s n out (octets_sent out.answer)
 
 abbrev pub number_after : Sender → ℕ → Sent → ℕ
-number_after s n answer = cond answer.due (cond (repeats s answer) n (suc n)) n
+number_after s n out = cond (goes_out out.answer) (cond (repeats s out) n (suc n)) n
 
 abbrev pub emissions : Sender → ℕ → List Entry → List Emission
 emissions s n [] = []
@@ -49,7 +60,7 @@ emissions s n (e ∷ es) = emitted s n (sent s e) ++ emissions (sent s e).sender
 
 -- The periods that it sends: the ten samples of the entry.
 abbrev pub sent_of : Sender → Sent → Entry → List (List ℕ)
-sent_of s answer e = cond answer.due (cond (repeats s answer) [] (e.samples ∷ [])) []
+sent_of s out e = cond (goes_out out.answer) (cond (repeats s out) [] (e.samples ∷ [])) []
 
 abbrev pub sent_by : Sender → List Entry → List (List ℕ)
 sent_by s [] = []
@@ -60,7 +71,7 @@ abbrev pub start_period : ℕ → List ℕ
 start_period start = replicate 10 start
 
 abbrev pub period_of : ℕ → List Entry → ℕ → List ℕ
-period_of start entries j = get_or (start_period start ∷ start_period start ∷ sent_by (started start).sender entries) j (start_period start)
+period_of start entries j = get_or (start_period start ∷ start_period start ∷ sent_by (sender_from start) entries) j (start_period start)
 
 -- the arrivals, by the numbers of their payloads
 abbrev pub arrivals : List Emission → List ℕ
@@ -73,17 +84,17 @@ answers r [] = []
 answers r (p ∷ ps) = received r p.octets ∷ answers (received r p.octets).receiver ps
 
 abbrev pub numbers_in : List Received → List ℕ
-numbers_in xs = map (λ (a : Received). a.number) xs
+numbers_in xs = map (λ (x : Received). number_in x) xs
 
 abbrev pub tens : List ℕ → List (List ℕ)
 tens samples = take 10 samples ∷ take 10 (drop 10 samples) ∷ take 10 (drop 20 samples) ∷ []
 
-abbrev pub marks_of : Received → List (Mark (List ℕ))
+abbrev pub marks_of : Appended → List (Mark (List ℕ))
 marks_of a = replicate a.fills (filled (replicate 10 a.fill)) ++ map carried (take a.carried (tens a.periods))
 
 abbrev pub marks_in : List Received → List (Mark (List ℕ))
 marks_in [] = []
-marks_in (a ∷ xs) = marks_of a ++ marks_in xs
+marks_in (x ∷ xs) = marks_of (appended_in x) ++ marks_in xs
 
 -- entries have ten samples each: the type `[u8; 10]` of the code
 abbrev pub TenEach : List Entry → Type 0
@@ -97,11 +108,11 @@ most_behind = 64
 -- What is given.
 pub record Given (start : ℕ) (entries : List Entry) (first second : List Emission) : Type 0 where
   -- "a start value is given", and is not refused
-  pub begins : (started start).number ≡ sound
+  pub begins : started start ≡ Ok (sender_from start)
   pub ten : TenEach entries
   -- "Each gets some of its payloads, undamaged": in any order, and any number of times each
-  pub some : AllIn first (emissions (started start).sender 0 entries)
-  pub some2 : AllIn second (emissions (started start).sender 0 entries)
+  pub some : AllIn first (emissions (sender_from start) 0 entries)
+  pub some2 : AllIn second (emissions (sender_from start) 0 entries)
   -- "successive fresh arrivals at most 63 .. periods apart", the farthest step that is replayed; and how far the others are behind
   pub arriving : Arriving farthest most_behind (arrivals first)
   pub arriving2 : Arriving farthest most_behind (arrivals second)
@@ -118,11 +129,11 @@ SignallingCarried =
 
 -- Demand 3 in its own words, with the smaller bound: where the payloads come in order, all of them are fresh.
 pub record InOrder (start : ℕ) (entries : List Entry) (first second : List Emission) : Type 0 where
-  pub begins : (started start).number ≡ sound
+  pub begins : started start ≡ Ok (sender_from start)
   pub ten : TenEach entries
   -- "Each gets some of its payloads, undamaged and in order"
-  pub some : Sublist first (emissions (started start).sender 0 entries)
-  pub some2 : Sublist second (emissions (started start).sender 0 entries)
+  pub some : Sublist first (emissions (sender_from start) 0 entries)
+  pub some2 : Sublist second (emissions (sender_from start) 0 entries)
   -- "the second at least all that the first gets"
   pub more : Among (arrivals first) (arrivals second)
   -- "No two successive arrivals at either are more than" so many "periods apart"

@@ -2,7 +2,7 @@
 -- proofs/SignallingRuns.antt.
 use Rattle.std.specs.Prelude.{◌≡◌, List, [], ◌∷◌, ◌++◌, true, false, replicate}
 use Rattle.seizing.specs.declared.Entry.{Entry}
-use Rattle.seizing.specs.Sender.{started}
+use Rattle.seizing.specs.Sender.{sender_from}
 use Rattle.seized.specs.Receiver.{fresh_receiver}
 use Rattle.replay.specs.Periods.{fresh_of, AllIn}
 use Rattle.replay.specs.Claims.{Replays}
@@ -27,7 +27,7 @@ abbrev pub line : List Entry
 line = replicate 274 still ++ ring ∷ replicate 160 pulse
 
 abbrev pub sent : List Emission
-sent = emissions (started 0).sender 0 line
+sent = emissions (sender_from 0) 0 line
 
 -- Both receivers have gaps of 63 periods, get a payload 64 periods behind the last fresh one, and go round at 128. The first begins
 -- with the repeat of the payload number 24, the second gets that payload itself and then its repeat. They are named by their places:

@@ -1,12 +1,10 @@
 -- Runs that meet what TrunkDigitsCarried and TrunkSignallingCarried ask: on an acelp sub-channel, those of DigitRuns.antt and
 -- SignallingRuns.antt with other payloads before each of the sender's. Proved in proofs/TrunkRuns.antt.
-use Rattle.std.specs.Prelude.{◌≡◌, List, [], ◌∷◌, ◌++◌, map, true, false, replicate, pos}
-use Rattle.refusal.specs.Numbers.{type_not_allowed, length_wrong}
+use Rattle.std.specs.Prelude.{◌≡◌, List, [], ◌∷◌, ◌++◌, map, true, false, replicate, pos, Option, None, Some}
+use Rattle.refusal.specs.declared.Refusal.TheVariants.{NotProvisioned, TypeNotAllowed, LengthWrong}
+use Rattle.record.specs.declared.syntax.Record.{Record}
 use Rattle.record.specs.declared.syntax.Syntax.TheVariants.{Acelp}
-use Rattle.record.specs.declared.table.Found.{Found}
-use Rattle.record.specs.declared.table.Found.TheVariants.{Provisioned}
 use Rattle.sid.specs.declared.Sid.TheVariants.{Plain}
-use Rattle.fax.specs.declared.Stamp.TheVariants.{NoStamp, Stamped}
 use Rattle.fax.specs.declared.Command.TheVariants.{On, Page}
 use Rattle.digits.specs.Layout.{off_window}
 use Rattle.payload.specs.Content.{Reading, reads, refused, speech, silent, faxed, dialled, seized, payload_read}
@@ -15,8 +13,8 @@ use Rattle.carried.specs.DigitRuns as digit-runs
 use Rattle.carried.specs.SignallingRuns as signalling-runs
 use Rattle.carried.specs.Trunks.{Coming, came, other, DigitsGiven, SignallingGiven}
 
-abbrev pub acelp : Found
-acelp = Provisioned (record { syntax = Acelp; m = 1; seq = false })
+abbrev pub acelp : Option Record
+acelp = Some (record { syntax = Acelp; m = 1; seq = false })
 
 -- Payloads of other kinds, by type and octets: voice, a silence descriptor, fax data, which a trunk refuses with 41, and
 -- modulation-on; voice of no octet and a type that no sub-channel has, which are refused.
@@ -30,19 +28,19 @@ amid_digits = others ++ other 2 (129 ∷ replicate 15 255) ∷ other 1 [] ∷ []
 abbrev pub amid_signalling : List Coming
 amid_signalling = others ++ other 1 (7 ∷ 0 ∷ 34 ∷ 5 ∷ 0 ∷ 0 ∷ 0 ∷ 0 ∷ []) ∷ other 2 [] ∷ []
 
--- they read so
+-- They read so. A payload of the sender is none of them: it stands here as 11, which no payload of this sub-channel gets.
 abbrev pub reading_of : Coming → Reading
-reading_of (came p) = refused 0
+reading_of (came p) = refused NotProvisioned
 reading_of (other ptype octets) = payload_read acelp ptype octets
 
 abbrev pub other_readings : List Reading
 other_readings =
     reads (speech (record { 0 = 0 }) 0 (replicate 10 170))
     ∷ reads (silent Plain)
-    ∷ reads (faxed 1 NoStamp Page (65 ∷ 255 ∷ 255 ∷ []))
-    ∷ reads (faxed 0 (Stamped 1000) (On true 1 0) [])
-    ∷ refused length_wrong
-    ∷ refused type_not_allowed
+    ∷ reads (faxed 1 None Page (65 ∷ 255 ∷ 255 ∷ []))
+    ∷ reads (faxed 0 (Some 1000) (On true 1 0) [])
+    ∷ refused LengthWrong
+    ∷ refused TypeNotAllowed
     ∷ []
 
 abbrev pub signalling_reading : Reading
@@ -66,7 +64,7 @@ each before [] = []
 each before (p ∷ ps) = before ++ came p ∷ each before ps
 
 pub record Runs : Type 0 where
-  pub amid_digits_is : map reading_of amid_digits ≡ other_readings ++ signalling_reading ∷ refused length_wrong ∷ []
-  pub amid_signalling_is : map reading_of amid_signalling ≡ other_readings ++ digits_reading ∷ refused length_wrong ∷ []
+  pub amid_digits_is : map reading_of amid_digits ≡ other_readings ++ signalling_reading ∷ refused LengthWrong ∷ []
+  pub amid_signalling_is : map reading_of amid_signalling ≡ other_readings ++ digits_reading ∷ refused LengthWrong ∷ []
   pub digits : DigitsGiven acelp digit-runs.call (each amid_digits digit-runs.first) (each amid_digits digit-runs.second)
   pub signalling : SignallingGiven acelp 0 signalling-runs.line (each amid_signalling signalling-runs.first) (each amid_signalling signalling-runs.second)

@@ -1,29 +1,29 @@
--- Looking for the end of a key: none stands before place i.
-use Prim.Native.Nat.{ℕ, ◌+◌, ◌<◌, ◌≤◌}
-use mathlib.Core.Path.{◌≡◌}
-use mathlib.Core.List.{List}
-use native.Mathlib.Numerals.{add-one}
-use native.Mathlib.Omega.{arith}
-use borrow.Author.Tests.{eq-eqb, ne_eqb}
-use lib.ListN.{length, get_or, drop, drop_of_length-le}
-use lib.Seq.{drop-cons}
+-- The end of a key, by where its first `=` stands.
+use Prim.Native.Nat.{ℕ, ◌+◌, ◌≤◌}
+use mathlib.Core.Path.{◌≡◌, refl}
+use mathlib.Core.List.{List, [], ◌∷◌}
+use mathlib.Core.Bool.{Bool, true, false, cond}
+use lib.Dec.{eqb, ltb}
+use lib.ListN.{length}
+use Rattle.std.proofs.Common.{arith}
+use Rattle.std.proofs.lemmas.Bool.Decides.{nat_tests}
+use Rattle.std.specs.List.{position_or_len}
 use Rattle.console.specs.Key.{key_size}
 
-module _ (s : List ℕ) (i : ℕ) (past : key_size s ≡ i + key_size (drop i s)) where
-  pub no_more : length s ≤ i → i ≡ key_size s
-  unfolding key_size
-  no_more h = let rest : key_size (drop i s) ≡ 0 = rw (drop_of_length-le s h) in omega arith
+abbrev place : List ℕ → ℕ
+place s = position_or_len (λ c. eqb c 61) s
 
-  module _ (there : i < length s) where
-    pub found : get_or s i 0 ≡ 61 → i + 1 ≡ key_size s
-    unfolding key_size
-    found h =
-        let rest : key_size (drop i s) ≡ 1 = rw (drop-cons s i 0 there) (simp (eq-eqb (get_or s i 0) 61 h)) in
-        omega arith
+pub ends : (s : List ℕ) → key_size s ≡ cond (ltb (place s) (length s)) (place s + 1) (length s)
+unfolding key_size
+ends [] = refl
+ends (x ∷ xs) = grind (arith, nat_tests, ends xs)
 
-    pub passed : (get_or s i 0 ≡ 61 → ⊥) → key_size s ≡ i + 1 + key_size (drop (i + 1) s)
-    unfolding key_size
-    passed h =
-        let rest : key_size (drop i s) ≡ 1 + key_size (drop (i + 1) s) =
-        rw (drop-cons s i 0 there, add-one i) (simp (ne_eqb (get_or s i 0) 61 h)) in
-        omega arith
+-- a key is a part of its line
+pub within : (text : List ℕ) → key_size text ≤ length text
+unfolding key_size
+within [] = omega arith
+within (c ∷ cs) = go (eqb c 61) (within cs)
+  where
+    go : (b : Bool) → key_size cs ≤ length cs → cond b 1 (1 + key_size cs) ≤ length (c ∷ cs)
+    go true rest = omega arith
+    go false rest = omega arith

@@ -1,3 +1,3 @@
-pub mod Decoding
 pub mod Keys
 pub mod Kept
+pub mod Decoding

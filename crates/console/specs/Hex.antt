@@ -1,8 +1,11 @@
 -- Octets that a line states in lower-case hex, two characters an octet (crates/hexline/specs/Hex.antt).
-use Rattle.std.specs.Prelude.{ℕ, ◌+◌, ◌-◌, ◌*◌, List, [], ◌∷◌, Bool, cond, ◌&&◌, ltb, leb, eqb, ℤ, pos, negsuc, length}
+use Rattle.std.specs.Prelude.{ℕ, ◌+◌, ◌-◌, ◌*◌, List, [], ◌∷◌, Bool, cond, ◌&&◌, ltb, leb, eqb, ℤ, pos, negsuc, length, Option, Some, None}
 use Rattle.refusal.specs.Order.{◌or◌}
 use Rattle.hexline.specs.Hex.{hex_value, is_other}
-use Rattle.console.specs.declared.hex.Decoded.{Decoded}
+
+-- the value of a hex character; none of any other
+abbrev pub digit : ℕ → Option ℕ
+digit c = cond (is_other c) None (Some (hex_value c))
 
 -- the octets of the pairs of hex characters that a text starts with
 unfoldable pub leading : List ℕ → List ℕ
@@ -14,8 +17,9 @@ leading (c ∷ d ∷ rest) = cond (is_other c or is_other d) [] ((hex_value c * 
 abbrev pub sound_in : ℕ → List ℕ → Bool
 sound_in room text = leb (length (leading text)) room && eqb (length (leading text) * 2) (length text)
 
-abbrev pub decoded : ℕ → List ℕ → Decoded
-decoded room text = record { sound = sound_in room text; size = cond (sound_in room text) (length (leading text)) 0 }
+-- how many octets they are then
+abbrev pub decoded : ℕ → List ℕ → Option ℕ
+decoded room text = cond (sound_in room text) (Some (length (leading text))) None
 
 -- an octet as a signed number: from 128 on it stands for 256 less
 abbrev pub signed_of : ℕ → ℤ

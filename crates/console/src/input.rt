@@ -12,11 +12,10 @@ pub struct Input {
     pub have: usize,
 }
 
-// The next character, or that the input has ended.
+// The next character, none where the input has ended; and the input behind it.
 #[derive(Clone, Copy)]
 struct Next {
-    ended: bool,
-    character: u8,
+    character: Option<u8>,
     input: Input,
 }
 
@@ -30,22 +29,17 @@ pub struct Line {
 
 // Takes a character, from a new block when the last one is used up. A read that fails ends the input.
 fn next_character(reader: &mut impl Read, block: &mut [u8], input: Input) -> Next {
-    let taken = input.taken;
-    if taken < input.have {
-        return Next {
-            ended: false,
-            character: octets::octet(block, taken),
-            input: Input {
-                taken: taken + 1,
-                have: input.have,
-            },
-        };
-    }
-    let have = reader.read(block).unwrap_or(0);
+    let (at, have) = if input.taken < input.have {
+        (input.taken, input.have)
+    } else {
+        (0, reader.read(block).unwrap_or(0))
+    };
     Next {
-        ended: have == 0,
-        character: octets::octet(block, 0),
-        input: Input { taken: 1, have },
+        character: (at < have).then_some(octets::octet(block, at)),
+        input: Input {
+            taken: at + 1,
+            have,
+        },
     }
 }
 
@@ -59,34 +53,38 @@ fn keep(room: &mut [u8], at: usize, character: u8)
 }
 
 // Reads a line. A longer one than the room is read to its end; none uses the count up. What the room has of it has no LF.
-pub fn read_line(reader: &mut impl Read, block: &mut [u8], room: &mut [u8], input: Input) -> Line
+pub fn read_line(
+    reader: &mut impl Read,
+    block: &mut [u8],
+    room: &mut [u8],
+    mut input: Input,
+) -> Line
     ensures { has_lf (take result.size room.new) ≡ false }
 {
-    let mut now = input;
-    let mut size: usize = 0;
-    while size < usize::MAX {
-        let next = next_character(reader, block, now);
-        now = next.input;
-        if next.ended {
-            return Line {
-                size,
-                whole: false,
-                input: now,
-            };
+    for size in 0..usize::MAX {
+        let next = next_character(reader, block, input);
+        input = next.input;
+        match next.character {
+            Some(LF) => {
+                return Line {
+                    size,
+                    whole: true,
+                    input,
+                };
+            }
+            Some(character) => keep(room, size, character),
+            None => {
+                return Line {
+                    size,
+                    whole: false,
+                    input,
+                };
+            }
         }
-        if next.character == LF {
-            return Line {
-                size,
-                whole: true,
-                input: now,
-            };
-        }
-        keep(room, size, next.character);
-        size += 1;
     }
     Line {
-        size,
+        size: usize::MAX,
         whole: false,
-        input: now,
+        input,
     }
 }

@@ -1,17 +1,21 @@
 // The key of a line.
-ghost use Rattle.std.specs.Prelude.{◌≡◌};
+ghost use Rattle.std.specs.Prelude.{◌≡◌, ◌==◌, position};
 ghost use Rattle.console.specs.Key.{key_size};
 
+// Where the first `=` of a text stands.
+fn equals_at(text: &[u8]) -> Option<usize>
+    ensures { result ≡ position (λ c. c == 61) text.now }
+{
+    text.iter().position(|c| *c == b'=')
+}
+
 // How many characters a text has up to its first `=`, with that; all, where it has none.
+#[tactic(auto, using(crate::proofs::Keys::ends))]
 pub fn size(text: &[u8]) -> usize
     ensures { result ≡ key_size text.now }
 {
-    let mut i: usize = 0;
-    while i < text.len() {
-        if text[i] == b'=' {
-            return i + 1;
-        }
-        i += 1;
+    match equals_at(text) {
+        Some(at) => at + 1,
+        None => text.len(),
     }
-    i
 }

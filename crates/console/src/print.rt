@@ -25,10 +25,8 @@ fn octet(rt: &impl Print, octet: u8) {
 // A name and the octets from a place up to another in hex.
 pub fn part(rt: &impl Print, name: &[u8], octets: &[u8], from: usize, to: usize) {
     raw(rt, name);
-    let mut i = from;
-    while i < to {
+    for i in from..to {
         octet(rt, octets::octet(octets, i));
-        i += 1;
     }
     raw(rt, b"\n");
 }

@@ -19,53 +19,53 @@ fn step_round(last: u16, new: u16, bits: u16) -> u16
     requires { bits < 16 }
     ensures { result ≡ step bits last new }
 {
-    round(std::num::wrapping_sub_u16(new, last), bits)
+    round(new.wrapping_sub(last), bits)
 }
 
 // Counts of 4 bits: on by one, and the step.
 fn next_four(count: u8) -> u8
     ensures { result ≡ onward 4 count 1 }
 {
-    round(std::num::wrapping_add_u16(count as u16, 1), 4) as u8
+    round(u16::from(count).wrapping_add(1), 4) as u8
 }
 
 fn step_four(last: u8, new: u8) -> u8
     ensures { result ≡ step 4 last new }
 {
-    step_round(last as u16, new as u16, 4) as u8
+    step_round(u16::from(last), u16::from(new), 4) as u8
 }
 
 // The sequence of digit payloads (Annex A), of 8 bits.
-#[derive(Clone, Copy)]
+#[derive(Clone, Copy, Debug, PartialEq, Eq)]
 pub struct DigitCount(pub u8);
 
 // The sequence of signalling payloads (Annex B), of 7 bits.
-#[derive(Clone, Copy)]
+#[derive(Clone, Copy, Debug, PartialEq, Eq)]
 pub struct SignallingCount(pub u8);
 
 // The sequence of voice and SID payloads (Annexes E to I), of 4 bits.
-#[derive(Clone, Copy)]
+#[derive(Clone, Copy, Debug, PartialEq, Eq)]
 pub struct VoiceCount(pub u8);
 
 // The sequence of data payloads (Annex C), of 13 bits.
-#[derive(Clone, Copy)]
+#[derive(Clone, Copy, Debug, PartialEq, Eq)]
 pub struct DataCount(pub u16);
 
 // The sequence of fax payloads (Annex D), of 4 bits.
-#[derive(Clone, Copy)]
+#[derive(Clone, Copy, Debug, PartialEq, Eq)]
 pub struct FaxCount(pub u8);
 
 impl DigitCount {
     pub fn next(self) -> Self
         ensures { result.0 ≡ onward 8 self.0 1 }
     {
-        DigitCount(std::num::wrapping_add_u8(self.0, 1))
+        DigitCount(self.0.wrapping_add(1))
     }
 
     pub fn step_to(self, new: DigitCount) -> u8
         ensures { result ≡ step 8 self.0 new.0 }
     {
-        std::num::wrapping_sub_u8(new.0, self.0)
+        new.0.wrapping_sub(self.0)
     }
 }
 
@@ -73,13 +73,13 @@ impl SignallingCount {
     pub fn next(self) -> Self
         ensures { result.0 ≡ onward 7 self.0 1 }
     {
-        SignallingCount(round(std::num::wrapping_add_u16(self.0 as u16, 1), 7) as u8)
+        SignallingCount(round(u16::from(self.0).wrapping_add(1), 7) as u8)
     }
 
     pub fn step_to(self, new: SignallingCount) -> u8
         ensures { result ≡ step 7 self.0 new.0 }
     {
-        step_round(self.0 as u16, new.0 as u16, 7) as u8
+        step_round(u16::from(self.0), u16::from(new.0), 7) as u8
     }
 }
 
@@ -101,7 +101,7 @@ impl DataCount {
     pub fn next(self) -> Self
         ensures { result.0 ≡ onward 13 self.0 1 }
     {
-        DataCount(round(std::num::wrapping_add_u16(self.0, 1), 13))
+        DataCount(round(self.0.wrapping_add(1), 13))
     }
 
     pub fn step_to(self, new: DataCount) -> u16

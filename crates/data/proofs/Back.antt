@@ -9,11 +9,13 @@ use native.Mathlib.Omega.{arith}
 use borrow.Author.Tests.{ltb-false, ne_eqb, eqb-false}
 use lib.Dec.{ltb, eqb}
 use lib.ListN.{length, drop}
+use Rattle.std.specs.declared.result.Result.{Result}
+use Rattle.std.specs.declared.result.Result.TheVariants.{Ok, Err}
+use Rattle.refusal.specs.declared.Refusal.{Refusal}
 use Rattle.octets.proofs.Order.{eq-or-ne, past}
 use Rattle.octets.proofs.MadeBack.{same-made}
-use Rattle.counts.specs.declared.DataCount.{DataCount}
-use Rattle.data.specs.declared.DataRead.TheVariants.{Fragment, BadData}
-use Rattle.data.specs.Data.{begins_in, ends_in, third_bit, sequence_in, data_read, first_octet, second_octet}
+use Rattle.data.specs.declared.Fragment.{Fragment}
+use Rattle.data.specs.Data.{begins_in, ends_in, third_bit, sequence_in, fragment_in, data_read, first_octet, second_octet}
 use Rattle.data.specs.Claims.{MadeReadsBack, ReadIsMade}
 use Rattle.data.proofs.DataCases as cases
 
@@ -64,21 +66,24 @@ made-reads-back begins ends sequence body octets m =
       ap (drop 2) is,
     )
 
-never : {A : Type 0} (number : ℕ) (b e : Bool) (s : DataCount) → BadData number ≡ Fragment b e s → A
-never number b e s p = let z : ◌≡◌ {A = ℕ} 0 1 = cc in absurd (omega arith)
+never : (r : Refusal) (f : Fragment) → ◌≡◌ {A = Result Fragment Refusal} (Err r) (Ok f) → ⊥
+never r f e = cc
+
+told : (f g : Fragment) → ◌≡◌ {A = Result Fragment Refusal} (Ok f) (Ok g) → f ≡ g
+told f g e = cc
 
 -- what holds of a payload that was read
-record Was (p : List ℕ) (b e : Bool) (s : DataCount) : Type 0 where
+record Was (p : List ℕ) (f : Fragment) : Type 0 where
   whole : 3 ≤ length p
   clear : third_bit p ≡ false
-  is : Fragment (begins_in p) (ends_in p) (sequence_in p) ≡ Fragment b e s
+  is : fragment_in p ≡ f
 
-was : (p : List ℕ) (b e : Bool) (s : DataCount) → data_read p ≡ Fragment b e s → Was p b e s
+was : (p : List ℕ) (f : Fragment) → data_read p ≡ Ok f → Was p f
 unfolding data_read
-was p b e s is =
-    let whole = past (ltb (length p) 3) _ _ _ (never _ b e s) is in
-    let clear = past (third_bit p) _ _ _ (never _ b e s) whole.1 in
-    record { whole = ltb-false (length p) 3 whole.0; clear = clear.0; is = clear.1 }
+was p f is =
+    let whole = past (ltb (length p) 3) _ _ _ (never _ f) is in
+    let clear = past (third_bit p) _ _ _ (never _ f) whole.1 in
+    record { whole = ltb-false (length p) 3 whole.0; clear = clear.0; is = told _ _ clear.1 }
 
 -- the bits of an octet
 pieces : (x : ℕ) → x / 128 * 128 + x / 64 % 2 * 64 + x / 32 % 2 * 32 + x % 32 ≡ x
@@ -109,21 +114,20 @@ octet-again first second body h k c =
     (without (first / 128) (first / 64 % 2) (first / 32 % 2) (first % 32) first c (pieces first))
 
 pub read-is-made : ReadIsMade
-read-is-made [] b e s small is = absurd (omega (arith, (was [] b e s is).whole))
-read-is-made (x ∷ []) b e s small is = absurd (omega (arith, (was (x ∷ []) b e s is).whole))
+read-is-made [] b e s small is = absurd (omega (arith, (was [] _ is).whole))
+read-is-made (x ∷ []) b e s small is = absurd (omega (arith, (was (x ∷ []) _ is).whole))
 read-is-made (first ∷ second ∷ body) b e s small is =
     let p : List ℕ = first ∷ second ∷ body in
-    let w = was p b e s is in
+    let w = was p _ is in
     let h : first < 256 = small 0 in
     let k : second < 256 = small 1 in
     let whole : 3 ≤ length p = w.whole in
     let some : length body ≡ 0 → ⊥ = λ z. omega arith in
     let t = first % 32 * 256 + second in
     let range : t ≤ 8191 = omega arith in
-    let f = w.is in
-    let begins : begins_in p ≡ b = cc in
-    let ends : ends_in p ≡ e = cc in
-    let sequence : sequence_in p ≡ s = cc in
     let again = octet-again first second (second ∷ body) h k (cleared first w.clear) in
     let low : t % 256 ≡ second = omega arith in
+    let begins : begins_in p ≡ b = ap (λ (f : Fragment). f.begins) w.is in
+    let ends : ends_in p ≡ e = ap (λ (f : Fragment). f.ends) w.is in
+    let sequence : sequence_in p ≡ s = ap (λ (f : Fragment). f.sequence) w.is in
     rw (← begins, ← ends, ← sequence) (cases.made-right (begins_in p) (ends_in p) t body some range ∙ simp (again, low))

@@ -4,13 +4,13 @@
 --   first octet           B   E   0   sequence, its high five bits
 --   second octet          sequence, its low eight bits
 --   body                  at least one octet
-use Rattle.std.specs.Prelude.{ℕ, ◌+◌, ◌*◌, ◌/◌, ◌%◌, List, [], ◌∷◌, ◌++◌, Bool, cond, ltb, eqb, length, get_or}
-use Rattle.refusal.specs.Numbers.{length_wrong, reserved_code, value_out_of_range}
+use Rattle.std.specs.Prelude.{ℕ, ◌+◌, ◌*◌, ◌/◌, ◌%◌, List, [], ◌∷◌, ◌++◌, Bool, cond, ltb, eqb, length, get_or, Result, Ok, Err}
 use Rattle.refusal.specs.Order.{◌gives◌, in_order}
+use Rattle.refusal.specs.declared.Refusal.{Refusal}
+use Rattle.refusal.specs.declared.Refusal.TheVariants.{LengthWrong, ReservedCode, ValueOutOfRange}
 use Rattle.octets.specs.Made.{Made, made, unmade}
 use Rattle.counts.specs.declared.DataCount.{DataCount}
-use Rattle.data.specs.declared.DataRead.{DataRead}
-use Rattle.data.specs.declared.DataRead.TheVariants.{Fragment, BadData}
+use Rattle.data.specs.declared.Fragment.{Fragment}
 
 -- ---- Reading: the fields of a payload
 
@@ -26,15 +26,18 @@ third_bit p = eqb (get_or p 0 0 / 32 % 2) 1
 abbrev pub sequence_in : List ℕ → DataCount
 sequence_in p = record { 0 = get_or p 0 0 % 32 * 256 + get_or p 1 0 }
 
+abbrev pub fragment_in : List ℕ → Fragment
+fragment_in p = record { begins = begins_in p; ends = ends_in p; sequence = sequence_in p }
+
 -- "then at least one octet. The third bit set: 14."
-unfoldable pub data_read : List ℕ → DataRead
+unfoldable pub data_read : List ℕ → Result Fragment Refusal
 data_read p =
     in_order
-    (ltb (length p) 3 gives length_wrong
-    ∷ third_bit p gives reserved_code
+    (ltb (length p) 3 gives LengthWrong
+    ∷ third_bit p gives ReservedCode
     ∷ [])
-    BadData
-    (Fragment (begins_in p) (ends_in p) (sequence_in p))
+    Err
+    (Ok (fragment_in p))
 
 -- ---- Writing
 
@@ -52,8 +55,8 @@ front begins ends sequence = first_octet begins ends sequence ∷ second_octet s
 unfoldable pub data_made : Bool → Bool → ℕ → List ℕ → Made
 data_made begins ends sequence body =
     in_order
-    (eqb (length body) 0 gives length_wrong
-    ∷ ltb 8191 sequence gives value_out_of_range
+    (eqb (length body) 0 gives LengthWrong
+    ∷ ltb 8191 sequence gives ValueOutOfRange
     ∷ [])
     unmade
     (made (front begins ends sequence ++ body))

@@ -6,53 +6,50 @@ ghost use Rattle.octets.specs.Made.{fit_of, put_made, left_made};
 ghost use Rattle.data.specs.Data.{data_read, front, data_made};
 
 use counts::DataCount;
-use octets::{Fit, Put};
+use refusal::Refusal;
 
 // The largest sequence of 13 bits.
 const MOST_SEQUENCE: u16 = 8191;
 
-// What reading a data payload tells; the fragment's octets stand behind the first two.
-#[derive(Clone, Copy)]
-pub enum DataRead {
-    Fragment {
-        begins: bool,
-        ends: bool,
-        sequence: DataCount,
-    },
-    // The refusal number.
-    BadData(u8),
+// What a data payload tells of its fragment, whose octets stand behind the first two.
+#[derive(Clone, Copy, Debug, PartialEq, Eq)]
+pub struct Fragment {
+    pub begins: bool,
+    pub ends: bool,
+    pub sequence: DataCount,
 }
 
 // Reads a data payload.
 #[tactic(auto, unfolding(crate::specs::Data::data_read))]
-pub fn read_data(payload: &[u8]) -> DataRead
+pub fn read_data(payload: &[u8]) -> Result<Fragment, Refusal>
     ensures { result ≡ data_read payload.now }
 {
     if payload.len() < 3 {
-        return DataRead::BadData(refusal::LENGTH_WRONG);
+        return Err(Refusal::LengthWrong);
     }
     let first = payload[0];
     if first / 32 % 2 == 1 {
-        return DataRead::BadData(refusal::RESERVED_CODE);
+        return Err(Refusal::ReservedCode);
     }
-    DataRead::Fragment {
+    Ok(Fragment {
         begins: first / 128 == 1,
         ends: first / 64 % 2 == 1,
         sequence: DataCount(octets::double(first % 32, payload[1])),
-    }
+    })
 }
 
 // The octets of a data payload with this body, or the refusal, whatever B and E are.
-pub fn fit_data(sequence: DataCount, body: &[u8]) -> Fit
+#[tactic(auto, unfolding(crate::specs::Data::data_made))]
+pub fn fit_data(sequence: DataCount, body: &[u8]) -> Result<usize, Refusal>
     ensures { (begins ends : Bool) → result ≡ fit_of (data_made begins ends sequence.0 body.now) }
 {
-    if body.len() == 0 {
-        return Fit::Unfit(refusal::LENGTH_WRONG);
+    if body.is_empty() {
+        return Err(Refusal::LengthWrong);
     }
     if MOST_SEQUENCE < sequence.0 {
-        return Fit::Unfit(refusal::VALUE_OUT_OF_RANGE);
+        return Err(Refusal::ValueOutOfRange);
     }
-    Fit::Octets(2 + body.len())
+    Ok(2 + body.len())
 }
 
 // A bit of an octet at its place, or 0.
@@ -80,15 +77,11 @@ pub fn put_data(
     ends: bool,
     sequence: DataCount,
     body: &[u8],
-) -> Put
+) -> Result<usize, Refusal>
     ensures answer { result ≡ put_made room.old at (data_made begins ends sequence.0 body.now) }
     ensures holds { room.new ≡ left_made room.old at (data_made begins ends sequence.0 body.now) }
 {
-    match fit_data(sequence, body) {
-        Fit::Unfit(number) => Put::NotWritten(number),
-        Fit::Octets(_) => {
-            let head = front(begins, ends, sequence);
-            octets::put_both(room, at, &head, body)
-        }
-    }
+    fit_data(sequence, body)?;
+    let head = front(begins, ends, sequence);
+    octets::put_both(room, at, &head, body)
 }

@@ -1,10 +1,11 @@
 -- Worked runs of a digit receiver (document 01, "Receivers"; document 02, wish 3), on the definitions. Proved in
 -- proofs/Examples.antt.
-use Rattle.std.specs.Prelude.{ℕ, ◌≡◌, List, [], ◌∷◌, true, false}
+use Rattle.std.specs.Prelude.{ℕ, ◌≡◌, List, [], ◌∷◌, true, false, Ok, Err}
+use Rattle.refusal.specs.declared.Refusal.{Refusal}
+use Rattle.refusal.specs.declared.Refusal.TheVariants.{LengthWrong, ReservedCode, ValueOutOfRange, OlderPayload}
 use Rattle.digits.specs.declared.layout.Window.{Window}
 use Rattle.dialled.specs.declared.Receiver.{Receiver}
-use Rattle.dialled.specs.declared.Received.{Received}
-use Rattle.dialled.specs.Receiver.{fresh_receiver, received, voice_heard}
+use Rattle.dialled.specs.Receiver.{Received, fresh_receiver, received, voice_heard}
 
 abbrev on : ℕ → ℕ → Window
 on code edge = record { on = true; edge = edge; code = code }
@@ -23,11 +24,7 @@ heard_at sequence = record { heard = true; last = record { 0 = sequence }; on = 
 abbrev appends : ℕ → Window → ℕ → List Window → Receiver → Received
 appends fills fill carried periods receiver =
     record {
-      number = 0;
-      fills = fills;
-      fill = fill;
-      carried = carried;
-      periods = periods;
+      answer = Ok (record { fills = fills; fill = fill; carried = carried; periods = periods });
       receiver = receiver;
     }
 
@@ -64,16 +61,8 @@ AfterVoice =
     ∷ []
 
 -- A refused payload appends nothing, and the receiver stands.
-abbrev refuses : ℕ → Receiver → Received
-refuses number receiver =
-    record {
-      number = number;
-      fills = 0;
-      fill = off 0;
-      carried = 0;
-      periods = off 0 ∷ off 0 ∷ off 0 ∷ [];
-      receiver = receiver;
-    }
+abbrev refuses : Refusal → Receiver → Received
+refuses refusal receiver = record { answer = Err refusal; receiver = receiver }
 
 -- a reserved bit; and, before 19, an older payload an octet short, with a reserved bit, with an edge of 20
 abbrev pub NotTaken : Type 0
@@ -83,10 +72,10 @@ NotTaken =
     ∷ received (heard_at 254) (253 ∷ 64 ∷ 32 ∷ 3 ∷ 32 ∷ 2 ∷ 32 ∷ 1 ∷ [])
     ∷ received (heard_at 254) (253 ∷ 0 ∷ 52 ∷ 3 ∷ 32 ∷ 2 ∷ 32 ∷ 1 ∷ [])
     ∷ []
-    ≡ refuses 14 (heard_at 254)
-    ∷ refuses 13 (heard_at 254)
-    ∷ refuses 14 (heard_at 254)
-    ∷ refuses 15 (heard_at 254)
+    ≡ refuses ReservedCode (heard_at 254)
+    ∷ refuses LengthWrong (heard_at 254)
+    ∷ refuses ReservedCode (heard_at 254)
+    ∷ refuses ValueOutOfRange (heard_at 254)
     ∷ []
 
 -- Steps 128 and 255 are older, also after voice; a first payload is never older, whatever its number.
@@ -98,9 +87,9 @@ OlderOnes =
     ∷ received fresh_receiver (payload 128)
     ∷ received fresh_receiver (payload 255)
     ∷ []
-    ≡ refuses 19 (heard_at 254)
-    ∷ refuses 19 (heard_at 254)
-    ∷ refuses 19 (voice_heard (heard_at 254))
+    ≡ refuses OlderPayload (heard_at 254)
+    ∷ refuses OlderPayload (heard_at 254)
+    ∷ refuses OlderPayload (voice_heard (heard_at 254))
     ∷ appends 0 (off 0) 3 (on 1 0 ∷ on 2 0 ∷ on 3 0 ∷ []) (heard_at 128)
     ∷ appends 0 (off 0) 3 (on 1 0 ∷ on 2 0 ∷ on 3 0 ∷ []) (heard_at 255)
     ∷ []

@@ -12,7 +12,7 @@ use Rattle.digits.specs.declared.layout.Window.{Window}
 use Rattle.digits.specs.Layout.{window_wrong, level_low}
 use Rattle.dialling.specs.declared.Entry.{Entry}
 use Rattle.dialling.specs.declared.Sender.{Sender}
-use Rattle.dialling.specs.declared.Taken.{Taken}
+use Rattle.dialling.specs.Sender.{Taken}
 use Rattle.dialling.specs.Sender.{fresh_sender, window_in, stray_edge, loud, due, tail_after, period, sending}
 use Rattle.dialling.specs.SenderClaims.{loud_of, sent_of, loud_periods, sent_periods, near_loud, SentExactly}
 

@@ -1,9 +1,10 @@
 -- Worked runs of a digit sender (document 01, "Senders, per 20 ms"), on the definitions. Proved in proofs/Examples.antt.
-use Rattle.std.specs.Prelude.{ℕ, ◌≡◌, [], ◌∷◌, map, true, false, ℤ, pos, negsuc}
+use Rattle.std.specs.Prelude.{ℕ, ◌≡◌, [], ◌∷◌, map, true, false, ℤ, pos, negsuc, Option, Some, None, Result, Ok, Err}
+use Rattle.refusal.specs.declared.Refusal.{Refusal}
+use Rattle.refusal.specs.declared.Refusal.TheVariants.{ValueOutOfRange, EdgeWithoutChange}
+use Rattle.digits.specs.declared.layout.Digits.{Digits}
 use Rattle.digits.specs.declared.layout.Window.{Window}
 use Rattle.dialling.specs.declared.Entry.{Entry}
-use Rattle.dialling.specs.declared.Sending.{Sending}
-use Rattle.dialling.specs.declared.Sending.TheVariants.{BadEntry, Unsent, Sent}
 use Rattle.dialling.specs.Sender.{fresh_sender}
 use Rattle.dialling.specs.SenderClaims.{answers}
 
@@ -17,16 +18,17 @@ off edge = record { on = false; edge = edge; code = 0 }
 abbrev entry : Window → ℤ → Entry
 entry w level = record { on = w.on; code = w.code; edge = w.edge; level = level }
 
-abbrev sends : ℕ → ℤ → Window → Window → Window → Sending
+abbrev sends : ℕ → ℤ → Window → Window → Window → Result (Option Digits) Refusal
 sends sequence level current recent previous =
-    Sent
+    Ok
+    (Some
     (record {
       sequence = record { 0 = sequence };
       level = level;
       current = current;
       recent = recent;
       previous = previous;
-    })
+    }))
 
 -- A tone of two periods, its end, three periods after it, and a tone again: with edge 0 it is a change too. Unsent periods are
 -- no windows, and have no number.
@@ -35,15 +37,15 @@ ATone =
     answers fresh_sender
     (map (λ (w : Window). entry w (negsuc 6))
     (off 0 ∷ on 5 3 ∷ on 5 0 ∷ off 7 ∷ off 0 ∷ off 0 ∷ off 0 ∷ off 0 ∷ off 0 ∷ on 6 0 ∷ []))
-    ≡ Unsent
+    ≡ Ok None
     ∷ sends 0 (negsuc 6) (on 5 3) (off 0) (off 0)
     ∷ sends 1 (negsuc 6) (on 5 0) (on 5 3) (off 0)
     ∷ sends 2 (negsuc 6) (off 7) (on 5 0) (on 5 3)
     ∷ sends 3 (negsuc 6) (off 0) (off 7) (on 5 0)
     ∷ sends 4 (negsuc 6) (off 0) (off 0) (off 7)
     ∷ sends 5 (negsuc 6) (off 0) (off 0) (off 0)
-    ∷ Unsent
-    ∷ Unsent
+    ∷ Ok None
+    ∷ Ok None
     ∷ sends 6 (negsuc 6) (on 6 0) (off 0) (off 0)
     ∷ []
 
@@ -66,11 +68,11 @@ Refusals =
     ∷ entry (on 5 19) (negsuc 30)
     ∷ entry (on 5 1) (pos 0)
     ∷ [])
-    ≡ BadEntry 15
-    ∷ BadEntry 15
-    ∷ BadEntry 15
-    ∷ BadEntry 17
-    ∷ Unsent
+    ≡ Err ValueOutOfRange
+    ∷ Err ValueOutOfRange
+    ∷ Err ValueOutOfRange
+    ∷ Err EdgeWithoutChange
+    ∷ Ok None
     ∷ sends 0 (negsuc 30) (on 5 19) (off 0) (off 0)
-    ∷ BadEntry 17
+    ∷ Err EdgeWithoutChange
     ∷ []

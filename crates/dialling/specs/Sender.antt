@@ -1,6 +1,7 @@
 -- The digit sender, one entry per 20 ms (document 01, "Senders, per 20 ms").
-use Rattle.std.specs.Prelude.{ℕ, ◌-◌, [], ◌∷◌, Bool, true, false, not, cond, ltb, eqb, ℤ}
-use Rattle.refusal.specs.Numbers.{value_out_of_range, edge_without_change}
+use Rattle.std.specs.Prelude.{ℕ, ◌-◌, [], ◌∷◌, Bool, true, false, not, cond, ltb, eqb, ℤ, Option, Some, None, Result, Ok, Err}
+use Rattle.refusal.specs.declared.Refusal.{Refusal}
+use Rattle.refusal.specs.declared.Refusal.TheVariants.{ValueOutOfRange, EdgeWithoutChange}
 use Rattle.refusal.specs.Order.{◌gives◌, in_order}
 use Rattle.counts.specs.Round.{onward}
 use Rattle.levels.specs.Level.{code_of}
@@ -8,8 +9,6 @@ use Rattle.digits.specs.declared.layout.Window.{Window}
 use Rattle.digits.specs.declared.layout.Digits.{Digits}
 use Rattle.dialling.specs.declared.Entry.{Entry}
 use Rattle.dialling.specs.declared.Sender.{Sender}
-use Rattle.dialling.specs.declared.Sending.TheVariants.{BadEntry, Unsent, Sent}
-use Rattle.dialling.specs.declared.Taken.{Taken}
 use Rattle.digits.specs.Layout.{off_window, window_wrong, level_low}
 
 -- "Start state: off." The sequence goes "from 0", "the start state standing before the first".
@@ -83,22 +82,27 @@ after_unsent s w =
       previous = s.previous;
     }
 
+-- What becomes of an entry, refused, unsent or sent as a payload; and the sender after it.
+pub record Taken : Type 0 where
+  pub answer : Result (Option Digits) Refusal
+  pub sender : Sender
+
 abbrev pub period : Sender → Window → ℤ → Taken
 period s w level =
-    cond (due s w) (record { answer = Sent (payload_of s w level); sender = after_sent s w })
-    (record { answer = Unsent; sender = after_unsent s w })
+    cond (due s w) (record { answer = Ok (Some (payload_of s w level)); sender = after_sent s w })
+    (record { answer = Ok None; sender = after_unsent s w })
 
 -- A refused entry is no period: the sender stands.
-abbrev pub refused : Sender → ℕ → Taken
-refused s number = record { answer = BadEntry number; sender = s }
+abbrev pub refused : Sender → Refusal → Taken
+refused s refusal = record { answer = Err refusal; sender = s }
 
 -- "(17; 15 comes first)"
 unfoldable pub sending : Sender → Entry → Taken
 sending s e =
     in_order
-    (window_wrong (window_in e) gives value_out_of_range
-    ∷ level_low (code_of 31 e.level) gives value_out_of_range
-    ∷ stray_edge s (window_in e) gives edge_without_change
+    (window_wrong (window_in e) gives ValueOutOfRange
+    ∷ level_low (code_of 31 e.level) gives ValueOutOfRange
+    ∷ stray_edge s (window_in e) gives EdgeWithoutChange
     ∷ [])
     (refused s)
     (period s (window_in e) e.level)

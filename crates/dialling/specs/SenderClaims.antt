@@ -1,20 +1,18 @@
 -- What is sent can be written and reads back (proved in proofs/SenderBack.antt), and which periods are sent.
-use Rattle.std.specs.Prelude.{ℕ, ◌≡◌, List, [], ◌∷◌, ◌++◌, Bool, true, false}
+use Rattle.std.specs.Prelude.{ℕ, ◌≡◌, List, [], ◌∷◌, ◌++◌, Bool, true, false, Option, Some, None, Result, Ok, Err}
+use Rattle.refusal.specs.declared.Refusal.{Refusal}
 use Rattle.refusal.specs.Order.{◌or◌}
 use Rattle.octets.specs.Made.{made}
 use Rattle.digits.specs.declared.layout.Window.{Window}
 use Rattle.digits.specs.declared.layout.Digits.{Digits}
-use Rattle.digits.specs.declared.layout.DigitsRead.TheVariants.{Dialled}
 use Rattle.dialling.specs.declared.Entry.{Entry}
 use Rattle.dialling.specs.declared.Sender.{Sender}
-use Rattle.dialling.specs.declared.Sending.{Sending}
-use Rattle.dialling.specs.declared.Sending.TheVariants.{BadEntry, Unsent, Sent}
 use Rattle.digits.specs.Layout.{window_wrong, digits_read, digits_made}
 use Rattle.digits.specs.Claims.{normal_level, normal_window}
 use Rattle.dialling.specs.Sender.{fresh_sender, window_in, loud, sending}
 
 -- What a sender answers to entries, one after the other, and the sender after them.
-abbrev pub answers : Sender → List Entry → List Sending
+abbrev pub answers : Sender → List Entry → List (Result (Option Digits) Refusal)
 answers s [] = []
 answers s (e ∷ es) = (sending s e).answer ∷ answers (sending s e).sender es
 
@@ -47,7 +45,7 @@ levelled d =
 pub record ReadsBack (d : Digits) : Type 0 where
   pub octets : List ℕ
   pub written : digits_made d ≡ made octets
-  pub read : digits_read octets ≡ Dialled (levelled d)
+  pub read : digits_read octets ≡ Ok (levelled d)
 
 abbrev pub FreshProper : Type 0
 FreshProper = Proper fresh_sender
@@ -56,23 +54,23 @@ abbrev pub StaysProper : Type 0
 StaysProper = (s : Sender) (e : Entry) → Proper s → Proper (sending s e).sender
 
 abbrev pub SentReadsBack : Type 0
-SentReadsBack = (s : Sender) (e : Entry) (d : Digits) → Proper s → (sending s e).answer ≡ Sent d → ReadsBack d
+SentReadsBack = (s : Sender) (e : Entry) (d : Digits) → Proper s → (sending s e).answer ≡ Ok (Some d) → ReadsBack d
 
 -- All that a fresh sender ever sends.
 abbrev pub AllReadsBack : Type 0
-AllReadsBack = (es : List Entry) (e : Entry) (d : Digits) → (sending (sender_after fresh_sender es) e).answer ≡ Sent d → ReadsBack d
+AllReadsBack = (es : List Entry) (e : Entry) (d : Digits) → (sending (sender_after fresh_sender es) e).answer ≡ Ok (Some d) → ReadsBack d
 
 -- Of the periods that a run of entries brings, in order: whether each is on or changes, and whether it is sent. A refused entry is
 -- no period.
-abbrev pub loud_of : Sending → Bool → List Bool
-loud_of (Sent d) loud = loud ∷ []
-loud_of Unsent loud = loud ∷ []
-loud_of (BadEntry number) loud = []
+abbrev pub loud_of : Result (Option Digits) Refusal → Bool → List Bool
+loud_of (Ok (Some d)) loud = loud ∷ []
+loud_of (Ok None) loud = loud ∷ []
+loud_of (Err refusal) loud = []
 
-abbrev pub sent_of : Sending → List Bool
-sent_of (Sent d) = true ∷ []
-sent_of Unsent = false ∷ []
-sent_of (BadEntry number) = []
+abbrev pub sent_of : Result (Option Digits) Refusal → List Bool
+sent_of (Ok (Some d)) = true ∷ []
+sent_of (Ok None) = false ∷ []
+sent_of (Err refusal) = []
 
 abbrev pub loud_periods : Sender → List Entry → List Bool
 loud_periods s [] = []

@@ -1,11 +1,12 @@
 // The digit sender, one entry per 20 ms (document 01, "Senders, per 20 ms").
 #![tactic(auto)]
 
-ghost use Rattle.std.specs.Prelude.{◌≡◌};
-ghost use Rattle.dialling.specs.Sender.{fresh_sender, window_in, changes, stray_edge, loud, due, tail_after, period, refused, sending};
+ghost use Rattle.std.specs.Prelude.{◌≡◌, Ok};
+ghost use Rattle.dialling.specs.Sender.{fresh_sender, window_in, changes, stray_edge, loud, due, tail_after, period, sending};
 
 use counts::DigitCount;
 use digits::layout::{Digits, Window};
+use refusal::Refusal;
 
 // What a period is to be: off, or on with a code; where in it the change lies, in ms; and the level of its own payload.
 #[derive(Clone, Copy)]
@@ -28,171 +29,111 @@ pub struct Sender {
     previous: Window,
 }
 
-// What becomes of an entry.
-#[derive(Clone, Copy)]
-pub enum Sending {
-    // The refusal number.
-    BadEntry(u8),
-    Unsent,
-    Sent(Digits),
-}
-
-// That, and the sender after it.
-#[derive(Clone, Copy)]
-pub struct Taken {
-    pub answer: Sending,
-    pub sender: Sender,
-}
-
-// The sender at its start.
-pub fn fresh() -> Sender
-    ensures { result ≡ fresh_sender }
-{
-    Sender {
-        next: DigitCount(0),
-        on: false,
-        code: 0,
-        tail: 0,
-        recent: digits::layout::off_window(),
-        previous: digits::layout::off_window(),
-    }
-}
-
 // The period of an entry.
 fn window_in(entry: Entry) -> Window
     ensures { result ≡ window_in entry }
 {
-    if entry.on {
-        return Window {
-            on: true,
-            edge: entry.edge,
-            code: entry.code,
-        };
-    }
     Window {
-        on: false,
+        on: entry.on,
         edge: entry.edge,
-        code: 0,
+        code: if entry.on { entry.code } else { 0 },
     }
 }
 
-// Whether off, on or code changes from the entry before.
-fn changes(sender: Sender, window: Window) -> bool
-    ensures { result ≡ changes sender window }
-{
-    if sender.on {
-        if window.on {
-            return sender.code != window.code;
+impl Sender {
+    // The sender at its start.
+    pub fn fresh() -> Sender
+        ensures { result ≡ fresh_sender }
+    {
+        Sender {
+            next: DigitCount(0),
+            on: false,
+            code: 0,
+            tail: 0,
+            recent: digits::layout::off_window(),
+            previous: digits::layout::off_window(),
         }
-        return true;
     }
-    window.on
-}
 
-// An edge without a change.
-fn stray_edge(sender: Sender, window: Window) -> bool
-    ensures { result ≡ stray_edge sender window }
-{
-    if window.edge == 0 {
-        return false;
+    // Whether off, on or code changes from the entry before.
+    fn changes(self, window: Window) -> bool
+        ensures { result ≡ changes self window }
+    {
+        if self.on && window.on {
+            self.code != window.code
+        } else {
+            self.on != window.on
+        }
     }
-    !changes(sender, window)
-}
 
-// Whether a period is sent for its own sake: it is on or changes.
-fn loud(sender: Sender, window: Window) -> bool
-    ensures { result ≡ loud sender window }
-{
-    if window.on {
-        return true;
+    // An edge without a change.
+    fn stray_edge(self, window: Window) -> bool
+        ensures { result ≡ stray_edge self window }
+    {
+        window.edge != 0 && !self.changes(window)
     }
-    changes(sender, window)
-}
 
-// Whether it is sent: for its own sake, or as one of the three after such a one.
-fn due(sender: Sender, window: Window) -> bool
-    ensures { result ≡ due sender window }
-{
-    let own = loud(sender, window);
-    if own { true } else { 0 < sender.tail }
-}
+    // Whether a period is sent for its own sake: it is on or changes.
+    fn loud(self, window: Window) -> bool
+        ensures { result ≡ loud self window }
+    {
+        window.on || self.changes(window)
+    }
 
-// How many of the three are still to come after this one.
-fn tail_after(sender: Sender, window: Window) -> u8
-    ensures { result ≡ tail_after sender window }
-{
-    if loud(sender, window) {
-        return 3;
+    // Whether it is sent: for its own sake, or as one of the three after such a one.
+    fn due(self, window: Window) -> bool
+        ensures { result ≡ due self window }
+    {
+        self.loud(window) || 0 < self.tail
     }
-    if sender.tail == 0 {
-        return 0;
-    }
-    sender.tail - 1
-}
 
-// A period that is not refused.
-fn period(sender: Sender, window: Window, level: i8) -> Taken
-    ensures { result ≡ period sender window level }
-{
-    let tail = tail_after(sender, window);
-    let next = sender.next;
-    let recent = sender.recent;
-    let previous = sender.previous;
-    if due(sender, window) {
-        return Taken {
-            answer: Sending::Sent(Digits {
-                sequence: next,
-                level: level,
-                current: window,
-                recent: recent,
-                previous: previous,
-            }),
-            sender: Sender {
-                next: next.next(),
-                on: window.on,
-                code: window.code,
-                tail: tail,
-                recent: window,
-                previous: recent,
-            },
-        };
+    // How many of the three are still to come after this one.
+    fn tail_after(self, window: Window) -> u8
+        ensures { result ≡ tail_after self window }
+    {
+        if self.loud(window) {
+            return 3;
+        }
+        self.tail.saturating_sub(1)
     }
-    Taken {
-        answer: Sending::Unsent,
-        sender: Sender {
-            next: next,
-            on: window.on,
-            code: window.code,
-            tail: tail,
-            recent: recent,
-            previous: previous,
-        },
-    }
-}
 
-// A refused entry: the sender stands.
-fn refused(sender: Sender, number: u8) -> Taken
-    ensures { result ≡ refused sender number }
-{
-    Taken {
-        answer: Sending::BadEntry(number),
-        sender: sender,
+    // A period that is not refused.
+    fn period(&mut self, window: Window, level: i8) -> Option<Digits>
+        ensures answer { Ok result ≡ (period self.old window level).answer }
+        ensures after { self.new ≡ (period self.old window level).sender }
+    {
+        let before = *self;
+        self.on = window.on;
+        self.code = window.code;
+        self.tail = before.tail_after(window);
+        if !before.due(window) {
+            return None;
+        }
+        self.next = before.next.next();
+        self.recent = window;
+        self.previous = before.recent;
+        Some(Digits {
+            sequence: before.next,
+            level,
+            current: window,
+            recent: before.recent,
+            previous: before.previous,
+        })
     }
-}
 
-// Takes the entry of a period.
-pub fn send(sender: Sender, entry: Entry) -> Taken
-    ensures { result ≡ sending sender entry }
-{
-    let window = window_in(entry);
-    if digits::layout::window_wrong(window) {
-        return refused(sender, refusal::VALUE_OUT_OF_RANGE);
+    // Takes the entry of a period: whether it is sent, and as which payload. A refused entry leaves the sender as it was.
+    #[tactic(auto, using(crate::proofs::SenderCases::wrong, crate::proofs::SenderCases::low, crate::proofs::SenderCases::stray))]
+    pub fn send(&mut self, entry: Entry) -> Result<Option<Digits>, Refusal>
+        ensures answer { result ≡ (sending self.old entry).answer }
+        ensures after { self.new ≡ (sending self.old entry).sender }
+    {
+        let window = window_in(entry);
+        if digits::layout::window_wrong(window) || digits::layout::level_low(entry.level) {
+            return Err(Refusal::ValueOutOfRange);
+        }
+        if self.stray_edge(window) {
+            return Err(Refusal::EdgeWithoutChange);
+        }
+        Ok(self.period(window, entry.level))
     }
-    if digits::layout::level_low(entry.level) {
-        return refused(sender, refusal::VALUE_OUT_OF_RANGE);
-    }
-    if stray_edge(sender, window) {
-        return refused(sender, refusal::EDGE_WITHOUT_CHANGE);
-    }
-    period(sender, window, entry.level)
 }

@@ -1,27 +1,26 @@
 -- Digits payloads, written and read: the claims of specs/Claims.antt, and what the code stores.
-use Prim.Native.Nat.{ℕ, zero, suc, ◌+◌, ◌/◌, ◌%◌, ◌≤◌}
+use Prim.Native.Nat.{ℕ, zero, suc, ◌/◌, ◌%◌, ◌≤◌}
 use mathlib.Core.Path.{◌≡◌, refl, sym, ap, subst, ◌∙◌}
 use mathlib.Core.List.{List, ◌∷◌, ◌++◌}
 use mathlib.Core.Bool.{Bool, true, false, not}
-use mathlib.Core.Logic.{⊎_elim}
 use native.Mathlib.Omega.{arith}
-use borrow.Author.Tests.{le-ltb, ltb-false, le-leb, lt-leb, eq-eqb, ne_eqb, eqb-true, not-false}
-use lib.Dec.{ltb, eqb}
+use Rattle.std.proofs.lemmas.Bool.Decides.{nat_tests}
+use borrow.Author.Tests.{le-ltb, ltb-false, eqb-true, not-false}
+use lib.Dec.{eqb}
 use lib.ListN.{length, get_or}
 use lib.IntN.{ℤ, pos, negsuc, neg_ℤ}
-use Rattle.octets.proofs.Order.{lt-or-le, eq-or-ne, clash, neither, past}
+use Rattle.refusal.specs.declared.Refusal.TheVariants.{LengthWrong, ReservedCode, ValueOutOfRange}
+use Rattle.octets.proofs.Order.{neither, past}
 use Rattle.octets.proofs.MadeBack.{octets-made, same-made, never-made}
 use Rattle.octets.specs.Made.{made, fit_of}
-use Rattle.octets.specs.declared.Fit.TheVariants.{Octets}
-use Rattle.levels.specs.declared.Coded.TheVariants.{Code}
 use Rattle.levels.specs.Level.{level_of, code_of}
 use Rattle.levels.proofs.Laws.{code-of-level}
 use Rattle.digits.specs.declared.layout.Window.{Window}
 use Rattle.digits.specs.declared.layout.Digits.{Digits}
-use Rattle.digits.specs.declared.layout.DigitsRead.TheVariants.{Dialled, BadDigits}
 use Rattle.digits.specs.Layout.{window_of, spare_set, window_reserved, sequence_in, level_in, any_reserved, digits_in, window_wrong, windows_wrong, digits_read, type_and_edge, code_when_on, window_octets, level_low, level_code, digits_octets, digits_made}
 use Rattle.digits.specs.Claims.{normal_level, normal_window, normal, DigitsReadBack, heard, unheard, DigitsMadeAgain, DigitsReadAlike}
 use Rattle.digits.proofs.LayoutCases as cases
+use Rattle.std.specs.declared.result.Result.TheVariants.{Ok, Err}
 
 -- a content that is made into octets: its level and windows are in their ranges
 pub record Fitting (d : Digits) : Type 0 where
@@ -42,24 +41,17 @@ fitting d octets e =
     let others = neither _ _ first.1 in
     record { fair = level.0; w0 = first.0; w1 = others.0; w2 = others.1 }
 
-pub fits : (d : Digits) (n : ℕ) → fit_of (digits_made d) ≡ Octets n → Fitting d
+pub fits : (d : Digits) (n : ℕ) → fit_of (digits_made d) ≡ Ok n → Fitting d
 fits d n e = let m = octets-made (digits_made d) n e in fitting d m.0 m.1
 
 pub made-octets : (d : Digits) → Fitting d → digits_made d ≡ made (digits_octets d)
 made-octets d f = cases.all_right d f.fair (none-wrong d f)
 
--- a window in its range
-edge-small : (w : Window) → window_wrong w ≡ false → w.edge ≤ 19
-edge-small w e = ltb-false 19 w.edge (neither _ _ e).0
+pub fit_right : (d : Digits) (n : ℕ) → fit_of (digits_made d) ≡ Ok n → windows_wrong d ≡ false
+fit_right d n e = none-wrong d (fits d n e)
 
-code-small : (edge code : ℕ) → window_wrong (record { on = true; edge = edge; code = code }) ≡ false → code ≤ 15
-code-small edge code e = ltb-false 15 code (neither (ltb 19 edge) _ e).1
-
-pub edges-small : (d : Digits) → windows_wrong d ≡ false → (d.current.edge ≤ 19) × (d.recent.edge ≤ 19) × (d.previous.edge ≤ 19)
-edges-small d e =
-    let first = neither (window_wrong d.current) _ e in
-    let others = neither (window_wrong d.recent) _ first.1 in
-    (edge-small d.current first.0, edge-small d.recent others.0, edge-small d.previous others.1)
+pub fit_made : (d : Digits) (n : ℕ) → fit_of (digits_made d) ≡ Ok n → digits_made d ≡ made (digits_octets d)
+fit_made d n e = made-octets d (fits d n e)
 
 -- a window that was written reads back
 record Back (first second : ℕ) (w : Window) : Type 0 where
@@ -71,30 +63,14 @@ window-back : (on : Bool) (edge code : ℕ)
     → let w : Window = record { on = on; edge = edge; code = code } in
     window_wrong w ≡ false
     → Back (type_and_edge w) (code_when_on w) w
-window-back true edge code e =
-    let h = edge-small (record { on = true; edge = edge; code = code }) e in
-    let k = code-small edge code e in
-    let type : (32 + edge) / 32 ≡ 1 = omega arith in
-    let at : (32 + edge) % 32 ≡ edge = omega arith in
-    let none : code / 32 ≡ 0 = omega arith in
-    let same : code % 32 ≡ code = omega arith in
-    record { free = rw (type, none); is = rw (type, at, same); in-range = e }
-window-back false edge code e =
-    let h = edge-small (record { on = false; edge = edge; code = code }) e in
-    let type : edge / 32 ≡ 0 = omega arith in
-    let at : edge % 32 ≡ edge = omega arith in
-    record { free = rw type; is = rw (type, at); in-range = simp (le-ltb 19 edge h) }
+window-back true edge code e = record { free = grind (arith, nat_tests); is = grind (arith, nat_tests); in-range = e }
+window-back false edge code e = record { free = grind (arith, nat_tests); is = grind (arith, nat_tests); in-range = grind (arith, nat_tests) }
 
 -- a level that was written reads back
 level-back : (z : ℤ) → level_low (code_of 31 z) ≡ false → (level_code (code_of 31 z) ≤ 31) × (level_of (level_code (code_of 31 z)) ≡ normal_level z)
 level-back (pos zero) e = (omega arith, refl)
 level-back (pos (suc n)) e = (omega arith, refl)
-level-back (negsuc n) e =
-    ⊎_elim (λ over. clash (level_low (code_of 31 (negsuc n))) (simp (lt-leb (suc n) 31 over)) e)
-    (λ within.
-    let same : suc n % 64 ≡ suc n = omega arith in
-    (simp (le-leb (suc n) 31 within) within, simp (le-leb (suc n) 31 within, same)))
-    (lt-or-le 31 (suc n))
+level-back (negsuc n) e = (grind (arith, nat_tests), grind (arith, nat_tests))
 
 pub digits-read-back : DigitsReadBack
 digits-read-back d octets e =
@@ -113,7 +89,7 @@ digits-read-back d octets e =
     let fair : windows_wrong (normal d) ≡ false = simp (b0.in-range, b1.in-range, b2.in-range) in
     ap digits_read (same-made _ octets o e (made-octets d f))
     ∙ cases.right o refl free (ap windows_wrong is ∙ fair)
-    ∙ ap Dialled is
+    ∙ ap Ok is
 
 -- what holds of a payload that was read
 record Was (p : List ℕ) (d : Digits) : Type 0 where
@@ -122,23 +98,17 @@ record Was (p : List ℕ) (d : Digits) : Type 0 where
   in-range : windows_wrong (digits_in p) ≡ false
   is : digits_in p ≡ d
 
-never : {A : Type 0} (number : ℕ) (d : Digits) → BadDigits number ≡ Dialled d → A
-never number d e = let z : ◌≡◌ {A = ℕ} 0 1 = cc in absurd (omega arith)
-
-same_digits : (x y : Digits) → Dialled x ≡ Dialled y → x ≡ y
-same_digits x y e = cc
-
-was : (p : List ℕ) (d : Digits) → digits_read p ≡ Dialled d → Was p d
+was : (p : List ℕ) (d : Digits) → digits_read p ≡ Ok d → Was p d
 unfolding digits_read
 was p d e =
-    let whole = past (not (eqb (length p) 8)) _ _ _ (never _ d) e in
-    let free = past (any_reserved p) _ _ _ (never _ d) whole.1 in
-    let range = past (windows_wrong (digits_in p)) _ _ _ (never _ d) free.1 in
+    let whole = past (not (eqb (length p) 8)) (Err LengthWrong) _ _ (λ q. cc) e in
+    let free = past (any_reserved p) (Err ReservedCode) _ _ (λ q. cc) whole.1 in
+    let range = past (windows_wrong (digits_in p)) (Err ValueOutOfRange) _ _ (λ q. cc) free.1 in
     record {
       eight = eqb-true (length p) 8 (not-false _ whole.0);
       free = free.0;
       in-range = range.0;
-      is = same_digits _ d range.1;
+      is = let last = range.1 in cc;
     }
 
 -- a window that was read is normal, and its octets are those that were read
@@ -147,22 +117,7 @@ record Again (first second : ℕ) : Type 0 where
   normal_is : normal_window (window_of first second) ≡ window_of first second
 
 window-again : (first second : ℕ) → window_reserved first second ≡ false → Again first second
-window-again first second free =
-    let parts = neither _ _ free in
-    let type = ltb-false 1 (first / 32) parts.0 in
-    let clear = ltb-false 0 (second / 32) parts.1 in
-    let code : second % 32 ≡ second = omega arith in
-    ⊎_elim
-    (λ (one : first / 32 ≡ 1).
-    let all : 32 + first % 32 ≡ first = omega arith in
-    record { octets-are = simp (eq-eqb (first / 32) 1 one, all, code); normal_is = simp (eq-eqb (first / 32) 1 one) })
-    (λ (off : first / 32 ≡ 1 → ⊥).
-    let all : first % 32 ≡ first = off-octet first type off in
-    record { octets-are = simp (ne_eqb (first / 32) 1 off, all); normal_is = simp (ne_eqb (first / 32) 1 off) })
-    (eq-or-ne (first / 32) 1)
-  where
-    off-octet : (first : ℕ) → first / 32 ≤ 1 → (first / 32 ≡ 1 → ⊥) → first % 32 ≡ first
-    off-octet first type off = ⊎_elim (λ z. omega arith) (λ nz. absurd (off (omega arith))) (eq-or-ne (first / 32) 0)
+window-again first second free = record { octets-are = grind (arith, nat_tests); normal_is = grind (arith, nat_tests) }
 
 normal-down : (n : ℕ) → normal_level (neg_ℤ (pos n)) ≡ neg_ℤ (pos n)
 normal-down zero = refl
@@ -181,7 +136,7 @@ again p free range =
     let w1 = window-again (get_or p 4 0) (get_or p 5 0) others.0 in
     let w2 = window-again (get_or p 6 0) (get_or p 7 0) others.1 in
     let clear = ltb-false 0 (level_in p / 32) level.0 in
-    let coded : code_of 31 (level_of (level_in p)) ≡ Code (level_in p) = code-of-level 31 (level_in p) (omega arith) (omega arith) in (
+    let coded : code_of 31 (level_of (level_in p)) ≡ Ok (level_in p) = code-of-level 31 (level_in p) (omega arith) (omega arith) in (
       rw (normal-down (level_in p % 64), w0.normal_is, w1.normal_is, w2.normal_is),
       cases.all_right (digits_in p) (ap level_low coded) range ∙ ap made (same_row (sequence_in p) (ap level_code coded) w0.octets-are w1.octets-are w2.octets-are),
     )
@@ -194,4 +149,4 @@ digits-made-again d p small e =
 pub digits-read-alike : DigitsReadAlike
 digits-read-alike d p small e =
     let again = digits-made-again d p small e in
-    (sym (was p d e).eight, digits-read-back d (unheard p) again.1 ∙ ap Dialled again.0)
+    (sym (was p d e).eight, digits-read-back d (unheard p) again.1 ∙ ap Ok again.0)

@@ -1,10 +1,9 @@
 -- Digits payloads written and read (demand 2). Proved in proofs/LayoutBack.antt.
-use Rattle.std.specs.Prelude.{ℕ, ◌≡◌, List, [], ◌∷◌, ◌++◌, cond, length, ℤ, pos, negsuc}
+use Rattle.std.specs.Prelude.{ℕ, ◌≡◌, List, [], ◌∷◌, ◌++◌, cond, length, ℤ, pos, negsuc, Ok}
 use Rattle.octets.specs.Octets.{Octets}
 use Rattle.octets.specs.Made.{made}
 use Rattle.digits.specs.declared.layout.Window.{Window}
 use Rattle.digits.specs.declared.layout.Digits.{Digits}
-use Rattle.digits.specs.declared.layout.DigitsRead.TheVariants.{Dialled}
 use Rattle.digits.specs.Layout.{is_on, sequence_in, level_in, in_current, in_recent, in_previous, digits_read, digits_made}
 
 -- "save that a level above zero and the code of an off window come back as 0"
@@ -27,7 +26,7 @@ normal d =
 
 -- What is made reads back, but for those two.
 abbrev pub DigitsReadBack : Type 0
-DigitsReadBack = (d : Digits) (octets : List ℕ) → digits_made d ≡ made octets → digits_read octets ≡ Dialled (normal d)
+DigitsReadBack = (d : Digits) (octets : List ℕ) → digits_made d ≡ made octets → digits_read octets ≡ Ok (normal d)
 
 -- the octets of a payload, without the code of an off window, which reading ignores
 abbrev pub heard : ℕ → ℕ → List ℕ
@@ -41,7 +40,7 @@ abbrev pub DigitsMadeAgain : Type 0
 DigitsMadeAgain =
     (d : Digits) (octets : List ℕ)
     → Octets octets
-    → digits_read octets ≡ Dialled d
+    → digits_read octets ≡ Ok d
     → (normal d ≡ d) × (digits_made d ≡ made (unheard octets))
 
 -- Those octets are as many, and read the same.
@@ -49,5 +48,5 @@ abbrev pub DigitsReadAlike : Type 0
 DigitsReadAlike =
     (d : Digits) (octets : List ℕ)
     → Octets octets
-    → digits_read octets ≡ Dialled d
-    → (length (unheard octets) ≡ length octets) × (digits_read (unheard octets) ≡ Dialled d)
+    → digits_read octets ≡ Ok d
+    → (length (unheard octets) ≡ length octets) × (digits_read (unheard octets) ≡ Ok d)

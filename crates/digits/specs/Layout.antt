@@ -5,17 +5,16 @@
 --   2, 3      current window: type (3 bits) and edge (5), then 000 and code (5)
 --   4, 5      recent window
 --   6, 7      previous window
-use Rattle.std.specs.Prelude.{ℕ, ◌+◌, ◌/◌, ◌%◌, List, [], ◌∷◌, ◌++◌, Bool, true, false, not, cond, ltb, eqb, length, get_or}
-use Rattle.refusal.specs.Numbers.{length_wrong, reserved_code, value_out_of_range}
+use Rattle.std.specs.Prelude.{ℕ, ◌+◌, ◌/◌, ◌%◌, List, [], ◌∷◌, ◌++◌, Bool, true, false, not, cond, ltb, eqb, length, get_or, Result, Ok, Err}
+use Rattle.refusal.specs.declared.Refusal.{Refusal}
+use Rattle.refusal.specs.declared.Refusal.TheVariants.{LengthWrong, ReservedCode, ValueOutOfRange}
 use Rattle.refusal.specs.Order.{◌gives◌, in_order, ◌or◌}
 use Rattle.octets.specs.Made.{Made, made, unmade}
-use Rattle.levels.specs.declared.Coded.{Coded}
-use Rattle.levels.specs.declared.Coded.TheVariants.{Code, Above, Below}
+use Rattle.levels.specs.declared.Beyond.{Beyond}
+use Rattle.levels.specs.declared.Beyond.TheVariants.{Above, Below}
 use Rattle.levels.specs.Level.{level_of, code_of}
 use Rattle.digits.specs.declared.layout.Window.{Window}
 use Rattle.digits.specs.declared.layout.Digits.{Digits}
-use Rattle.digits.specs.declared.layout.DigitsRead.{DigitsRead}
-use Rattle.digits.specs.declared.layout.DigitsRead.TheVariants.{Dialled, BadDigits}
 
 -- An off period without an edge: the start state, and what an unused place holds.
 abbrev pub off_window : Window
@@ -75,15 +74,15 @@ abbrev pub windows_wrong : Digits → Bool
 windows_wrong d = window_wrong d.current or window_wrong d.recent or window_wrong d.previous
 
 -- Every 14 comes before any 15.
-unfoldable pub digits_read : List ℕ → DigitsRead
+unfoldable pub digits_read : List ℕ → Result Digits Refusal
 digits_read p =
     in_order
-    (not (eqb (length p) 8) gives length_wrong
-    ∷ any_reserved p gives reserved_code
-    ∷ windows_wrong (digits_in p) gives value_out_of_range
+    (not (eqb (length p) 8) gives LengthWrong
+    ∷ any_reserved p gives ReservedCode
+    ∷ windows_wrong (digits_in p) gives ValueOutOfRange
     ∷ [])
-    BadDigits
-    (Dialled (digits_in p))
+    Err
+    (Ok (digits_in p))
 
 -- ---- Writing
 
@@ -98,15 +97,15 @@ abbrev pub window_octets : Window → List ℕ
 window_octets w = type_and_edge w ∷ code_when_on w ∷ []
 
 -- "above zero is coded 0, 0 to -31 as its magnitude, below -31 gets 15"
-abbrev pub level_code : Coded → ℕ
-level_code (Code magnitude) = magnitude
-level_code Above = 0
-level_code Below = 0
+abbrev pub level_code : Result ℕ Beyond → ℕ
+level_code (Ok magnitude) = magnitude
+level_code (Err Above) = 0
+level_code (Err Below) = 0
 
-abbrev pub level_low : Coded → Bool
-level_low (Code magnitude) = false
-level_low Above = false
-level_low Below = true
+abbrev pub level_low : Result ℕ Beyond → Bool
+level_low (Ok magnitude) = false
+level_low (Err Above) = false
+level_low (Err Below) = true
 
 abbrev pub digits_octets : Digits → List ℕ
 digits_octets d =
@@ -117,8 +116,8 @@ digits_octets d =
 unfoldable pub digits_made : Digits → Made
 digits_made d =
     in_order
-    (level_low (code_of 31 d.level) gives value_out_of_range
-    ∷ windows_wrong d gives value_out_of_range
+    (level_low (code_of 31 d.level) gives ValueOutOfRange
+    ∷ windows_wrong d gives ValueOutOfRange
     ∷ [])
     unmade
     (made (digits_octets d))

@@ -5,11 +5,11 @@ ghost use Rattle.digits.specs.Layout.{off_window, window_of, window_reserved, an
 ghost use Rattle.levels.specs.Level.{code_of};
 
 use counts::DigitCount;
-use levels::Coded;
-use octets::{Fit, Put};
+use levels::Beyond;
+use refusal::Refusal;
 
 // One 20 ms period: off or on with a code, and where in it the change lies, in ms.
-#[derive(Clone, Copy)]
+#[derive(Clone, Copy, Debug, PartialEq, Eq)]
 pub struct Window {
     pub on: bool,
     pub edge: u8,
@@ -17,7 +17,7 @@ pub struct Window {
 }
 
 // A digits payload: the level in dBm0, which is 0 to -31 when read, and three periods.
-#[derive(Clone, Copy)]
+#[derive(Clone, Copy, Debug, PartialEq, Eq)]
 pub struct Digits {
     pub sequence: DigitCount,
     pub level: i8,
@@ -37,28 +37,15 @@ pub fn off_window() -> Window
     }
 }
 
-#[derive(Clone, Copy)]
-pub enum DigitsRead {
-    Dialled(Digits),
-    // The refusal number.
-    BadDigits(u8),
-}
-
 // What a window's two octets tell: type and edge, then the code, which is ignored when off.
 fn window_of(first: u8, second: u8) -> Window
     ensures { result ≡ window_of first second }
 {
-    if first / 32 == 1 {
-        return Window {
-            on: true,
-            edge: first % 32,
-            code: second % 32,
-        };
-    }
+    let on = first / 32 == 1;
     Window {
-        on: false,
+        on,
         edge: first % 32,
-        code: 0,
+        code: if on { second % 32 } else { 0 },
     }
 }
 
@@ -66,10 +53,7 @@ fn window_of(first: u8, second: u8) -> Window
 fn window_reserved(first: u8, second: u8) -> bool
     ensures { result ≡ window_reserved first second }
 {
-    if 1 < first / 32 {
-        return true;
-    }
-    0 < second / 32
+    1 < first / 32 || 0 < second / 32
 }
 
 // Whether a reserved bit or code stands in the level or in a window.
@@ -77,16 +61,10 @@ fn any_reserved(payload: &[u8]) -> bool
     requires { length payload.now ≡ 8 }
     ensures { result ≡ any_reserved payload.now }
 {
-    if 0 < payload[1] / 32 {
-        return true;
-    }
-    if window_reserved(payload[2], payload[3]) {
-        return true;
-    }
-    if window_reserved(payload[4], payload[5]) {
-        return true;
-    }
-    window_reserved(payload[6], payload[7])
+    0 < payload[1] / 32
+        || window_reserved(payload[2], payload[3])
+        || window_reserved(payload[4], payload[5])
+        || window_reserved(payload[6], payload[7])
 }
 
 // What the eight octets say.
@@ -107,81 +85,57 @@ fn digits_in(payload: &[u8]) -> Digits
 pub fn window_wrong(w: Window) -> bool
     ensures { result ≡ window_wrong w }
 {
-    if 19 < w.edge {
-        return true;
-    }
-    if w.on {
-        return 15 < w.code;
-    }
-    false
+    19 < w.edge || (w.on && 15 < w.code)
 }
 
 // Whether one of the three windows is wrong.
 fn windows_wrong(digits: Digits) -> bool
     ensures { result ≡ windows_wrong digits }
 {
-    let current = digits.current;
-    if window_wrong(current) {
-        return true;
-    }
-    let recent = digits.recent;
-    if window_wrong(recent) {
-        return true;
-    }
-    let previous = digits.previous;
-    window_wrong(previous)
+    window_wrong(digits.current) || window_wrong(digits.recent) || window_wrong(digits.previous)
 }
 
 // Reads a digits payload.
-pub fn read_digits(payload: &[u8]) -> DigitsRead
+#[tactic(auto, using(crate::proofs::LayoutCases::wrong, crate::proofs::LayoutCases::reserved, crate::proofs::LayoutCases::out, crate::proofs::LayoutCases::right))]
+pub fn read_digits(payload: &[u8]) -> Result<Digits, Refusal>
     ensures { result ≡ digits_read payload.now }
 {
     if payload.len() != 8 {
-        return DigitsRead::BadDigits(refusal::LENGTH_WRONG);
+        return Err(Refusal::LengthWrong);
     }
     if any_reserved(payload) {
-        return DigitsRead::BadDigits(refusal::RESERVED_CODE);
+        return Err(Refusal::ReservedCode);
     }
     let digits = digits_in(payload);
     if windows_wrong(digits) {
-        return DigitsRead::BadDigits(refusal::VALUE_OUT_OF_RANGE);
+        return Err(Refusal::ValueOutOfRange);
     }
-    DigitsRead::Dialled(digits)
+    Ok(digits)
 }
 
 // Whether a level is below -31.
 pub fn level_low(level: i8) -> bool
     ensures { result ≡ level_low (code_of 31 level) }
 {
-    match levels::code_of(level, 31) {
-        Coded::Code(_) => false,
-        Coded::Above => false,
-        Coded::Below => true,
-    }
+    levels::code_of(level, 31) == Err(Beyond::Below)
 }
 
 // The octet of a level: above zero is coded 0.
 fn level_code(level: i8) -> u8
     ensures { result ≡ level_code (code_of 31 level) }
 {
-    match levels::code_of(level, 31) {
-        Coded::Code(magnitude) => magnitude,
-        Coded::Above => 0,
-        Coded::Below => 0,
-    }
+    levels::code_of(level, 31).unwrap_or(0)
 }
 
 // The octets of a digits payload, or the refusal.
-pub fn fit_digits(digits: Digits) -> Fit
+#[tactic(auto, using(crate::proofs::LayoutCases::low, crate::proofs::LayoutCases::wrongs, crate::proofs::LayoutCases::all_right))]
+pub fn fit_digits(digits: Digits) -> Result<usize, Refusal>
     ensures { result ≡ fit_of (digits_made digits) }
 {
-    if level_low(digits.level) {
-        return Fit::Unfit(refusal::VALUE_OUT_OF_RANGE);
+    if level_low(digits.level) || windows_wrong(digits) {
+        return Err(Refusal::ValueOutOfRange);
     }
-    if windows_wrong(digits) {
-        return Fit::Unfit(refusal::VALUE_OUT_OF_RANGE);
-    }
-    Fit::Octets(8)
+    Ok(8)
 }
 
 // A window's first octet, where its edge is in its range.
@@ -204,31 +158,25 @@ fn octets_of(digits: Digits) -> [u8; 8]
     requires { windows_wrong digits ≡ false }
     ensures { result ≡ digits_octets digits }
 {
-    let current = digits.current;
-    let recent = digits.recent;
-    let previous = digits.previous;
     [
         digits.sequence.0,
         level_code(digits.level),
-        type_and_edge(current),
-        code_when_on(current),
-        type_and_edge(recent),
-        code_when_on(recent),
-        type_and_edge(previous),
-        code_when_on(previous),
+        type_and_edge(digits.current),
+        code_when_on(digits.current),
+        type_and_edge(digits.recent),
+        code_when_on(digits.recent),
+        type_and_edge(digits.previous),
+        code_when_on(digits.previous),
     ]
 }
 
 // Writes a digits payload at a place of lent room.
-pub fn put_digits(room: &mut [u8], at: usize, digits: Digits) -> Put
+#[tactic(auto, using(crate::proofs::LayoutBack::fit_right, crate::proofs::LayoutBack::fit_made))]
+pub fn put_digits(room: &mut [u8], at: usize, digits: Digits) -> Result<usize, Refusal>
     ensures answer { result ≡ put_made room.old at (digits_made digits) }
     ensures holds { room.new ≡ left_made room.old at (digits_made digits) }
 {
-    match fit_digits(digits) {
-        Fit::Unfit(number) => Put::NotWritten(number),
-        Fit::Octets(_) => {
-            let payload = octets_of(digits);
-            octets::put_octets(room, at, &payload)
-        }
-    }
+    fit_digits(digits)?;
+    let payload = octets_of(digits);
+    octets::put_octets(room, at, &payload)
 }

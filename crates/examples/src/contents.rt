@@ -3,25 +3,24 @@
 use crate::line;
 use counts::{DataCount, DigitCount, SignallingCount, VoiceCount};
 use digits::layout::{Digits, Window};
-use fax::{Command, Stamp};
-use octets::Fit;
+use fax::Command;
+use place::Writer;
 use record::syntax::{Record, Syntax};
+use refusal::Refusal;
 use sid::Sid;
 use signalling::layout::Signalling;
-use writer::primary::Primary;
 
 pub fn take(rt: &impl Print, line: &[u8], table: &[u16; 256]) {
     let letter = octets::octet(line, 0);
     let o = line::octets_of(line);
     match letter {
-        b'c' => refusal(rt, check(&o, table)),
+        b'c' => checked(rt, check(&o, table)),
         b'w' => written(rt, frame(&o, table)),
         _ => fits(rt, fit(letter, &o)),
     }
 }
 
-// A refusal number, or 0.
-fn refusal(rt: &impl Print, number: u8) {
+fn number(rt: &impl Print, number: u8) {
     console::print::number(rt, b"", number as u64);
 }
 
@@ -30,17 +29,25 @@ fn count(rt: &impl Print, octets: usize) {
     console::print::name(rt, b" octets");
 }
 
-fn fits(rt: &impl Print, answer: Fit) {
+// The refusal number, or 0.
+fn checked(rt: &impl Print, answer: Result<(), Refusal>) {
     match answer {
-        Fit::Octets(octets) => count(rt, octets),
-        Fit::Unfit(number) => refusal(rt, number),
+        Ok(()) => number(rt, refusal::SOUND),
+        Err(refusal) => number(rt, refusal.number()),
     }
 }
 
-fn written(rt: &impl Print, answer: Primary) {
+fn fits(rt: &impl Print, answer: Result<usize, Refusal>) {
     match answer {
-        Primary::PrimaryTaken(writer) => count(rt, writer.at),
-        Primary::PrimaryRefused(number) => refusal(rt, number),
+        Ok(octets) => count(rt, octets),
+        Err(refusal) => number(rt, refusal.number()),
+    }
+}
+
+fn written(rt: &impl Print, answer: Result<Writer, Refusal>) {
+    match answer {
+        Ok(writer) => count(rt, writer.at),
+        Err(refusal) => number(rt, refusal.number()),
     }
 }
 
@@ -50,14 +57,14 @@ fn body(o: &[u8; 600], at: usize, high: u8, low: u8) -> &[u8] {
 }
 
 // `check=`: the CID, the type (0 the provisioned syntax, 1 digits, 2 signalling, 3 fax, 4 SID), and two octets of size before the payload.
-fn check(o: &[u8; 600], table: &[u16; 256]) -> u8 {
+fn check(o: &[u8; 600], table: &[u16; 256]) -> Result<(), Refusal> {
     let found = record::table::record_of(table, o[0]);
     payload::check::check_payload(found, o[1], body(o, 4, o[2], o[3]))
 }
 
 // `written=`: pcm as the first sub-frame of a frame: whether it is last, the CID, the coding type, and two octets of size before
 // the body.
-fn frame(o: &[u8; 600], table: &[u16; 256]) -> Primary {
+fn frame(o: &[u8; 600], table: &[u16; 256]) -> Result<Writer, Refusal> {
     let mut room = [0u8; 1600];
     writer::primary::write_voice(
         &mut room,
@@ -71,7 +78,7 @@ fn frame(o: &[u8; 600], table: &[u16; 256]) -> Primary {
     )
 }
 
-fn fit(letter: u8, o: &[u8; 600]) -> Fit {
+fn fit(letter: u8, o: &[u8; 600]) -> Result<usize, Refusal> {
     match letter {
         b'd' => digits::layout::fit_digits(dialled(o)),
         b's' => seized(o),
@@ -104,7 +111,7 @@ fn dialled(o: &[u8; 600]) -> Digits {
 }
 
 // `seized=`: signalling of this sequence, and thirty times one sample.
-fn seized(o: &[u8; 600]) -> Fit {
+fn seized(o: &[u8; 600]) -> Result<usize, Refusal> {
     signalling::layout::fit_signalling(Signalling {
         alarm: false,
         sequence: SignallingCount(o[0]),
@@ -113,18 +120,18 @@ fn seized(o: &[u8; 600]) -> Fit {
 }
 
 // `fragment=`: a data fragment of this sequence and one octet.
-fn fragment(o: &[u8; 600]) -> Fit {
+fn fragment(o: &[u8; 600]) -> Result<usize, Refusal> {
     data::fit_data(DataCount(octets::double(o[0], o[1])), b"\xaa")
 }
 
 // `relay=`: fax off, of this sequence and stamp.
-fn relay(o: &[u8; 600]) -> Fit {
-    let stamp = Stamp::Stamped(octets::double(o[1], o[2]));
+fn relay(o: &[u8; 600]) -> Result<usize, Refusal> {
+    let stamp = Some(octets::double(o[1], o[2]));
     fax::fit_fax(o[0], stamp, Command::Off, b"")
 }
 
 // `quiet=`: a silence descriptor under pcm, of this sequence and level.
-fn quiet(o: &[u8; 600]) -> Fit {
+fn quiet(o: &[u8; 600]) -> Result<usize, Refusal> {
     sid::fit_sid(
         Syntax::Pcm,
         Sid::Noise {
@@ -135,7 +142,7 @@ fn quiet(o: &[u8; 600]) -> Fit {
 }
 
 // `pcm=`: m, the sequence, the coding type, and two octets of size before the body.
-fn pcm(o: &[u8; 600]) -> Fit {
+fn pcm(o: &[u8; 600]) -> Result<usize, Refusal> {
     let record = Record {
         syntax: Syntax::Pcm,
         m: o[0],
@@ -145,7 +152,7 @@ fn pcm(o: &[u8; 600]) -> Fit {
 }
 
 // `acelp=`: the sequence and the coding type, with m=1, seq=0.
-fn acelp(o: &[u8; 600]) -> Fit {
+fn acelp(o: &[u8; 600]) -> Result<usize, Refusal> {
     let record = Record {
         syntax: Syntax::Acelp,
         m: 1,

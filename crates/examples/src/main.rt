@@ -18,14 +18,12 @@ fn main(rt: HostRuntime) {
     let mut block = [0u8; 65536];
     let mut table = [0u16; 256];
     let mut input = Input { taken: 0, have: 0 };
-    let mut left = MOST_LINES;
-    while 0 < left {
+    for _ in 0..MOST_LINES {
         let line = one(&rt, &mut reader, &mut block, input, &mut table);
         if !line.whole {
             return;
         }
         input = line.input;
-        left -= 1;
     }
 }
 

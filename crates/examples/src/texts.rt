@@ -2,7 +2,7 @@
 // for LF.
 use crate::line;
 use octets::text::LF;
-use provisioning::text::TextAnswer;
+use provisioning::text::Refused;
 
 // `text=`: a text.
 pub fn text(rt: &impl Print, text: &[u8], table: &mut [u16; 256]) {
@@ -23,29 +23,25 @@ fn three(high: u8, low: u16) -> usize {
 
 fn read(rt: &impl Print, text: &[u8], size: usize, table: &mut [u16; 256]) {
     let mut room = [0u8; 65536];
-    octets::put_octets(&mut room, 0, text);
+    let _ = octets::put_octets(&mut room, 0, text);
     put_lines(&mut room);
-    let answer = provisioning::text::read_text(line::front(&room, size), table);
-    match answer {
-        TextAnswer::Taken(blocks) => console::print::number(rt, b"taken ", blocks as u64),
-        TextAnswer::Refused { number, line } => refused(rt, number, line),
+    match provisioning::text::read_text(line::front(&room, size), table) {
+        Ok(blocks) => console::print::number(rt, b"taken ", blocks as u64),
+        Err(answer) => refused(rt, answer),
     }
 }
 
-fn refused(rt: &impl Print, number: u8, line: usize) {
+fn refused(rt: &impl Print, answer: Refused) {
+    let number = answer.refusal.number();
     let _ = print!(rt; "{number}");
-    console::print::number(rt, b" line ", line as u64);
-}
-
-fn unslashed(character: u8) -> u8 {
-    if character == b'/' { LF } else { character }
+    console::print::number(rt, b" line ", answer.line as u64);
 }
 
 // Each `/` becomes an LF.
 fn put_lines(text: &mut [u8]) {
-    let mut i: usize = 0;
-    while i < text.len() {
-        text[i] = unslashed(text[i]);
-        i += 1;
+    for character in text.iter_mut() {
+        if *character == b'/' {
+            *character = LF;
+        }
     }
 }

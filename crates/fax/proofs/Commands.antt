@@ -5,10 +5,10 @@ use mathlib.Core.List.{[]}
 use mathlib.Core.Bool.{Bool, false}
 use native.Mathlib.Omega.{arith}
 use lib.ListN.{length}
-use Rattle.fax.specs.declared.Stamp.{Stamp}
 use Rattle.fax.specs.declared.Command.{Command}
 use Rattle.fax.specs.declared.Command.TheVariants.{Off, On, Page, EndOfFrame, Abort}
 use Rattle.fax.specs.Fax.{code_of, stamp_octets, command_octets, front_of, command_of, refused_on}
+use Rattle.std.specs.declared.option.Option.{Option}
 
 pub record Plain (command : Command) : Type 0 where
   pub none : command_octets command ≡ []
@@ -29,7 +29,7 @@ not-on Page other = plain Page (λ e. omega arith)
 not-on EndOfFrame other = plain EndOfFrame (λ e. omega arith)
 not-on Abort other = plain Abort (λ e. omega arith)
 
-pub plain-front : (stamp : Stamp) (command : Command) → Plain command → front_of stamp command ≡ 1 + length (stamp_octets stamp) + 0
+pub plain-front : (stamp : Option ℕ) (command : Command) → Plain command → front_of stamp command ≡ 1 + length (stamp_octets stamp) + 0
 unfolding front_of
 plain-front stamp command p = rw p.none
 

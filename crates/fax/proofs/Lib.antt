@@ -1,4 +1,3 @@
-pub mod Pages
 pub mod Commands
 pub mod FaxCases
 pub mod MadeReads

@@ -8,21 +8,19 @@
 --   4               frequency, its low octet
 --   5               frequency, its high octet
 --   data octets     as many as the command says
-use Rattle.std.specs.Prelude.{ℕ, ◌+◌, ◌-◌, ◌*◌, ◌/◌, ◌%◌, List, [], ◌∷◌, ◌++◌, Bool, false, cond, not, ◌&&◌, ltb, leb, eqb, length, get_or}
-use Rattle.refusal.specs.Numbers.{length_wrong, reserved_code, value_out_of_range}
+use Rattle.std.specs.Prelude.{ℕ, ◌+◌, ◌-◌, ◌*◌, ◌/◌, ◌%◌, List, [], ◌∷◌, ◌++◌, Bool, false, cond, not, ◌&&◌, ltb, leb, eqb, length, get_or, Option, None, Some, Result, Ok, Err}
+use Rattle.refusal.specs.declared.Refusal.{Refusal}
+use Rattle.refusal.specs.declared.Refusal.TheVariants.{LengthWrong, ReservedCode, ValueOutOfRange}
 use Rattle.refusal.specs.Order.{Test, ◌gives◌, in_order, ◌or◌}
 use Rattle.octets.specs.Made.{Made, made, unmade}
-use Rattle.fax.specs.declared.Stamp.{Stamp}
-use Rattle.fax.specs.declared.Stamp.TheVariants.{NoStamp, Stamped}
 use Rattle.fax.specs.declared.Command.{Command}
 use Rattle.fax.specs.declared.Command.TheVariants.{Off, On, Page, EndOfFrame, Abort}
-use Rattle.fax.specs.declared.FaxRead.{FaxRead}
-use Rattle.fax.specs.declared.FaxRead.TheVariants.{Fax, BadFax}
+use Rattle.fax.specs.declared.Fax.{Fax}
 
 -- The octets in front of the data octets, as they are written.
-abbrev pub ei1_for : Stamp → ℕ
-ei1_for NoStamp = 0
-ei1_for (Stamped time) = 1
+abbrev pub ei1_for : Option ℕ → ℕ
+ei1_for None = 0
+ei1_for (Some time) = 1
 
 abbrev pub code_of : Command → ℕ
 code_of Off = 0
@@ -31,12 +29,12 @@ code_of Page = 2
 code_of EndOfFrame = 3
 code_of Abort = 4
 
-abbrev pub first_octet : ℕ → Stamp → Command → ℕ
+abbrev pub first_octet : ℕ → Option ℕ → Command → ℕ
 first_octet sequence stamp command = ei1_for stamp * 128 + sequence * 8 + code_of command
 
-abbrev pub stamp_octets : Stamp → List ℕ
-stamp_octets NoStamp = []
-stamp_octets (Stamped time) = (time % 256) ∷ (time / 256) ∷ []
+abbrev pub stamp_octets : Option ℕ → List ℕ
+stamp_octets None = []
+stamp_octets (Some time) = (time % 256) ∷ (time / 256) ∷ []
 
 abbrev pub on_octet : Bool → ℕ → ℕ
 on_octet hdlc modulation = cond hdlc 128 0 + modulation
@@ -48,11 +46,11 @@ command_octets Page = []
 command_octets EndOfFrame = []
 command_octets Abort = []
 
-abbrev pub head_octets : ℕ → Stamp → Command → List ℕ
+abbrev pub head_octets : ℕ → Option ℕ → Command → List ℕ
 head_octets sequence stamp command = first_octet sequence stamp command ∷ (stamp_octets stamp ++ command_octets command)
 
 -- how many they are
-unfoldable pub front_of : Stamp → Command → ℕ
+unfoldable pub front_of : Option ℕ → Command → ℕ
 front_of stamp command = 1 + length (stamp_octets stamp) + length (command_octets command)
 
 -- The same octets, as they are read.
@@ -71,8 +69,8 @@ code_in payload = get_or payload 0 0 % 8
 abbrev pub time_in : List ℕ → ℕ
 time_in payload = get_or payload 2 0 % 128 * 256 + get_or payload 1 0
 
-abbrev pub stamp_in : List ℕ → Stamp
-stamp_in payload = cond (ei1_in payload) (Stamped (time_in payload)) NoStamp
+abbrev pub stamp_in : List ℕ → Option ℕ
+stamp_in payload = cond (ei1_in payload) (Some (time_in payload)) None
 
 abbrev pub ei2_in : List ℕ → Bool
 ei2_in payload = ei1_in payload && bit8 (get_or payload 2 0)
@@ -91,9 +89,9 @@ abbrev pub command_in : List ℕ → Command
 command_in payload = command_of (code_in payload) (on_in payload)
 
 -- "Off and on need EI1, else 14": commands 0 and 1.
-abbrev pub unstamped : Stamp → Command → Bool
-unstamped NoStamp command = ltb (code_of command) 2
-unstamped (Stamped time) command = false
+abbrev pub unstamped : Option ℕ → Command → Bool
+unstamped None command = ltb (code_of command) 2
+unstamped (Some time) command = false
 
 abbrev pub is_one : ℕ → List ℕ → Bool
 is_one n [] = false
@@ -124,40 +122,41 @@ refused_on Abort = false
 
 -- The refusals of a payload with this stamp and this command. Order: "13 when an octet that decides the length is missing; .. 14 for
 -- a code that decides the length (.. fax command with EI1); 13; any other 14".
-abbrev pub read_refusals : List ℕ → Stamp → Command → List Test
+abbrev pub read_refusals : List ℕ → Option ℕ → Command → List Test
 read_refusals payload stamp command =
-    eqb (length payload) 0 gives length_wrong
-    ∷ ltb 4 (code_in payload) gives reserved_code
-    ∷ unstamped stamp command gives reserved_code
-    ∷ ltb (length payload) (front_of stamp command) gives length_wrong
-    ∷ not (body_sized command (length payload - front_of stamp command)) gives length_wrong
-    ∷ ei2_in payload gives reserved_code
-    ∷ (eqb (code_in payload) 1 && ltb 0 (zero_bits_in payload)) gives reserved_code
-    ∷ refused_on command gives reserved_code
+    eqb (length payload) 0 gives LengthWrong
+    ∷ ltb 4 (code_in payload) gives ReservedCode
+    ∷ unstamped stamp command gives ReservedCode
+    ∷ ltb (length payload) (front_of stamp command) gives LengthWrong
+    ∷ not (body_sized command (length payload - front_of stamp command)) gives LengthWrong
+    ∷ ei2_in payload gives ReservedCode
+    ∷ (eqb (code_in payload) 1 && ltb 0 (zero_bits_in payload)) gives ReservedCode
+    ∷ refused_on command gives ReservedCode
     ∷ []
 
 -- What a payload tells.
-unfoldable pub fax_read : List ℕ → FaxRead
+unfoldable pub fax_read : List ℕ → Result Fax Refusal
 fax_read payload =
     let stamp = stamp_in payload in
     let command = command_in payload in
-    in_order (read_refusals payload stamp command) BadFax (Fax (sequence_in payload) stamp command (front_of stamp command))
+    in_order (read_refusals payload stamp command) Err
+    (Ok (record { sequence = sequence_in payload; stamp = stamp; command = command; front = front_of stamp command }))
 
-abbrev pub stamp_number : Stamp → ℕ
-stamp_number NoStamp = 0
-stamp_number (Stamped time) = time
+abbrev pub stamp_number : Option ℕ → ℕ
+stamp_number None = 0
+stamp_number (Some time) = time
 
 -- The refusals of a content, for writing: in the reader's order, then 15 for a sequence or a stamp beyond its bits.
-abbrev pub write_refusals : ℕ → Stamp → Command → List ℕ → List Test
+abbrev pub write_refusals : ℕ → Option ℕ → Command → List ℕ → List Test
 write_refusals sequence stamp command body =
-    unstamped stamp command gives reserved_code
-    ∷ not (body_sized command (length body)) gives length_wrong
-    ∷ refused_on command gives reserved_code
-    ∷ ltb 15 sequence gives value_out_of_range
-    ∷ ltb 32767 (stamp_number stamp) gives value_out_of_range
+    unstamped stamp command gives ReservedCode
+    ∷ not (body_sized command (length body)) gives LengthWrong
+    ∷ refused_on command gives ReservedCode
+    ∷ ltb 15 sequence gives ValueOutOfRange
+    ∷ ltb 32767 (stamp_number stamp) gives ValueOutOfRange
     ∷ []
 
 -- The octets of a fax payload.
-unfoldable pub fax_made : ℕ → Stamp → Command → List ℕ → Made
+unfoldable pub fax_made : ℕ → Option ℕ → Command → List ℕ → Made
 fax_made sequence stamp command body =
     in_order (write_refusals sequence stamp command body) unmade (made (head_octets sequence stamp command ++ body))

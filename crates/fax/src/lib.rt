@@ -6,7 +6,7 @@ ghost use Rattle.octets.specs.Made.{fit_of, put_made, left_made};
 ghost use Rattle.fax.specs.declared.Command.{Command};
 ghost use Rattle.fax.specs.Fax.{ei1_for, code_of, stamp_octets, command_octets, head_octets, front_of, bit8, ei1_in, code_in, time_in, command_of, unstamped, is_page, body_sized, tone_refused, refused_on, fax_read, stamp_number, fax_made};
 
-use octets::{Fit, Put};
+use refusal::Refusal;
 
 // The largest sequence of 4 bits, the largest stamp of 15, and the last modulation of the table.
 const MOST_SEQUENCE: u8 = 15;
@@ -15,15 +15,8 @@ const MOST_STAMP: u16 = 32767;
 
 const LAST_MODULATION: u8 = 11;
 
-// The time stamp, there exactly when EI1 is 1.
-#[derive(Clone, Copy)]
-pub enum Stamp {
-    NoStamp,
-    Stamped(u16),
-}
-
 // The relay command; `Page` is document 01's command 2, data.
-#[derive(Clone, Copy)]
+#[derive(Clone, Copy, Debug, PartialEq, Eq)]
 pub enum Command {
     Off,
     On {
@@ -36,17 +29,13 @@ pub enum Command {
     Abort,
 }
 
-// What reading a fax payload tells; the data octets stand behind `front` octets.
-#[derive(Clone, Copy)]
-pub enum FaxRead {
-    Fax {
-        sequence: u8,
-        stamp: Stamp,
-        command: Command,
-        front: usize,
-    },
-    // The refusal number.
-    BadFax(u8),
+// What reading a fax payload tells. The stamp is there exactly when EI1 is 1; the data octets stand behind `front` octets.
+#[derive(Clone, Copy, Debug, PartialEq, Eq)]
+pub struct Fax {
+    pub sequence: u8,
+    pub stamp: Option<u16>,
+    pub command: Command,
+    pub front: usize,
 }
 
 // Document 01's numbers of data octets: 3, and 12 to 72 in steps of 12.
@@ -54,28 +43,19 @@ pub enum FaxRead {
 fn is_page(octets: usize) -> bool
     ensures { result ≡ is_page octets }
 {
-    if octets == 3 {
-        return true;
-    }
-    if octets == 0 {
-        return false;
-    }
-    if 72 < octets {
-        return false;
-    }
-    octets % 12 == 0
+    // A match on the seven sizes would compile to a table of jumps (docs/DECISIONS.md).
+    octets == 3 || (octets != 0 && octets <= 72 && octets % 12 == 0)
 }
 
 // Whether a command takes so many data octets.
+#[tactic(auto, unfolding(crate::specs::Fax::body_sized))]
 fn body_fits(command: Command, octets: usize) -> bool
     ensures { result ≡ body_sized command octets }
 {
     match command {
-        Command::Off => octets == 0,
-        Command::On { .. } => octets == 0,
+        Command::Off | Command::On { .. } => octets == 0,
         Command::Page => is_page(octets),
-        Command::EndOfFrame => octets == 3,
-        Command::Abort => octets == 3,
+        Command::EndOfFrame | Command::Abort => octets == 3,
     }
 }
 
@@ -84,13 +64,7 @@ fn body_fits(command: Command, octets: usize) -> bool
 fn tone_refused(modulation: u8, frequency: u16) -> bool
     ensures { result ≡ tone_refused modulation frequency }
 {
-    if LAST_MODULATION < modulation {
-        return true;
-    }
-    if modulation == 0 {
-        return false;
-    }
-    0 < frequency
+    LAST_MODULATION < modulation || (0 < modulation && 0 < frequency)
 }
 
 // Off and on, commands 0 and 1, need EI1.
@@ -101,6 +75,7 @@ fn needs_stamp(code: u8) -> bool
 }
 
 // A command that has no octets of its own.
+#[tactic(auto, unfolding(crate::specs::Fax::command_of))]
 fn plain_command(code: u8) -> Command
     requires { (code ≡ 1 → ⊥) × (code ≤ 4) }
     ensures { (on : Command) → result ≡ command_of code on }
@@ -130,92 +105,93 @@ fn time_in(payload: &[u8]) -> u16
 }
 
 // Reads a payload without EI1: the data octets stand behind the first.
-fn read_bare(payload: &[u8]) -> FaxRead
+fn read_bare(payload: &[u8]) -> Result<Fax, Refusal>
     requires { (0 < length payload.now) × (code_in payload.now ≤ 4) × (ei1_in payload.now ≡ false) }
     ensures { result ≡ fax_read payload.now }
 {
     let first = payload[0];
     if needs_stamp(first % 8) {
-        return FaxRead::BadFax(refusal::RESERVED_CODE);
+        return Err(Refusal::ReservedCode);
     }
     let command = plain_command(first % 8);
     if !body_fits(command, payload.len() - 1) {
-        return FaxRead::BadFax(refusal::LENGTH_WRONG);
+        return Err(Refusal::LengthWrong);
     }
-    FaxRead::Fax {
+    Ok(Fax {
         sequence: first / 8 % 16,
-        stamp: Stamp::NoStamp,
+        stamp: None,
         command,
         front: 1,
-    }
+    })
 }
 
 // Reads the command on: its three octets stand behind the stamp.
-fn read_on(payload: &[u8]) -> FaxRead
+fn read_on(payload: &[u8]) -> Result<Fax, Refusal>
     requires { (0 < length payload.now) × (code_in payload.now ≡ 1) × (ei1_in payload.now ≡ true) }
     ensures { result ≡ fax_read payload.now }
 {
     if payload.len() != 6 {
-        return FaxRead::BadFax(refusal::LENGTH_WRONG);
+        return Err(Refusal::LengthWrong);
     }
     if ei2_set(payload) {
-        return FaxRead::BadFax(refusal::RESERVED_CODE);
+        return Err(Refusal::ReservedCode);
     }
     let on = payload[3];
     if on / 16 % 8 != 0 {
-        return FaxRead::BadFax(refusal::RESERVED_CODE);
+        return Err(Refusal::ReservedCode);
     }
     let modulation = on % 16;
     let frequency = octets::double(payload[5], payload[4]);
     if tone_refused(modulation, frequency) {
-        return FaxRead::BadFax(refusal::RESERVED_CODE);
+        return Err(Refusal::ReservedCode);
     }
-    FaxRead::Fax {
+    Ok(Fax {
         sequence: payload[0] / 8 % 16,
-        stamp: Stamp::Stamped(time_in(payload)),
+        stamp: Some(time_in(payload)),
         command: Command::On {
             hdlc: 128 <= on,
             modulation,
             frequency,
         },
         front: 6,
-    }
+    })
 }
 
 // Reads another command with EI1: the data octets stand behind the stamp.
-fn read_stamped(payload: &[u8]) -> FaxRead
+fn read_stamped(payload: &[u8]) -> Result<Fax, Refusal>
     requires { (0 < length payload.now) × (code_in payload.now ≤ 4) × (code_in payload.now ≡ 1 → ⊥) × (ei1_in payload.now ≡ true) }
     ensures { result ≡ fax_read payload.now }
 {
     let first = payload[0];
     let command = plain_command(first % 8);
     if payload.len() < 3 {
-        return FaxRead::BadFax(refusal::LENGTH_WRONG);
+        return Err(Refusal::LengthWrong);
     }
     if !body_fits(command, payload.len() - 3) {
-        return FaxRead::BadFax(refusal::LENGTH_WRONG);
+        return Err(Refusal::LengthWrong);
     }
     if ei2_set(payload) {
-        return FaxRead::BadFax(refusal::RESERVED_CODE);
+        return Err(Refusal::ReservedCode);
     }
-    FaxRead::Fax {
+    Ok(Fax {
         sequence: first / 8 % 16,
-        stamp: Stamp::Stamped(time_in(payload)),
+        stamp: Some(time_in(payload)),
         command,
         front: 3,
-    }
+    })
 }
 
 // Reads a fax payload: the first octet decides what stands behind it.
-pub fn read_fax(payload: &[u8]) -> FaxRead
+#[tactic(auto, unfolding(crate::specs::Fax::fax_read))]
+pub fn read_fax(payload: &[u8]) -> Result<Fax, Refusal>
     ensures { result ≡ fax_read payload.now }
 {
-    if payload.len() == 0 {
-        return FaxRead::BadFax(refusal::LENGTH_WRONG);
+    if payload.is_empty() {
+        return Err(Refusal::LengthWrong);
     }
     let first = payload[0];
     if 4 < first % 8 {
-        return FaxRead::BadFax(refusal::RESERVED_CODE);
+        return Err(Refusal::ReservedCode);
     }
     if first < 128 {
         return read_bare(payload);
@@ -226,23 +202,17 @@ pub fn read_fax(payload: &[u8]) -> FaxRead
     read_stamped(payload)
 }
 
-fn ei1_for(stamp: Stamp) -> u8
+fn ei1_for(stamp: Option<u16>) -> u8
     ensures { (result ≡ ei1_for stamp) × (result ≤ 1) }
 {
-    match stamp {
-        Stamp::NoStamp => 0,
-        Stamp::Stamped(_) => 1,
-    }
+    u8::from(stamp.is_some())
 }
 
 // The time of a stamp; 0 where there is none.
-pub fn stamp_number(stamp: Stamp) -> u16
+pub fn stamp_number(stamp: Option<u16>) -> u16
     ensures { result ≡ stamp_number stamp }
 {
-    match stamp {
-        Stamp::NoStamp => 0,
-        Stamp::Stamped(time) => time,
-    }
+    stamp.unwrap_or(0)
 }
 
 // A command's number in the first octet.
@@ -259,13 +229,10 @@ pub fn code_of(command: Command) -> u8
 }
 
 // Off or on without its stamp.
-fn lacks_stamp(stamp: Stamp, command: Command) -> bool
+fn lacks_stamp(stamp: Option<u16>, command: Command) -> bool
     ensures { result ≡ unstamped stamp command }
 {
-    match stamp {
-        Stamp::NoStamp => needs_stamp(code_of(command)),
-        Stamp::Stamped(_) => false,
-    }
+    stamp.is_none() && needs_stamp(code_of(command))
 }
 
 fn on_refused(command: Command) -> bool
@@ -273,62 +240,63 @@ fn on_refused(command: Command) -> bool
 {
     match command {
         Command::On {
-            hdlc: _,
             modulation,
             frequency,
+            ..
         } => tone_refused(modulation, frequency),
         _ => false,
     }
 }
 
-fn stamp_size(stamp: Stamp) -> usize
+fn stamp_size(stamp: Option<u16>) -> usize
     ensures { (result ≡ length (stamp_octets stamp)) × (result ≤ 2) }
 {
-    match stamp {
-        Stamp::NoStamp => 0,
-        Stamp::Stamped(_) => 2,
-    }
+    if stamp.is_some() { 2 } else { 0 }
 }
 
 fn command_size(command: Command) -> usize
     ensures { (result ≡ length (command_octets command)) × (result ≤ 3) }
 {
     match command {
-        Command::Off => 0,
         Command::On { .. } => 3,
-        Command::Page => 0,
-        Command::EndOfFrame => 0,
-        Command::Abort => 0,
+        _ => 0,
     }
 }
 
 // How many octets stand in front of the data octets.
-fn front_size(stamp: Stamp, command: Command) -> usize
+#[tactic(auto, unfolding(crate::specs::Fax::front_of))]
+fn front_size(stamp: Option<u16>, command: Command) -> usize
     ensures { (result ≡ front_of stamp command) × (result ≤ 6) }
 {
     1 + stamp_size(stamp) + command_size(command)
 }
 
 // The octets of a fax payload with this body, or the refusal.
-pub fn fit_fax(sequence: u8, stamp: Stamp, command: Command, body: &[u8]) -> Fit
+#[tactic(auto, unfolding(crate::specs::Fax::fax_made))]
+pub fn fit_fax(
+    sequence: u8,
+    stamp: Option<u16>,
+    command: Command,
+    body: &[u8],
+) -> Result<usize, Refusal>
     ensures { result ≡ fit_of (fax_made sequence stamp command body.now) }
 {
     if lacks_stamp(stamp, command) {
-        return Fit::Unfit(refusal::RESERVED_CODE);
+        return Err(Refusal::ReservedCode);
     }
     if !body_fits(command, body.len()) {
-        return Fit::Unfit(refusal::LENGTH_WRONG);
+        return Err(Refusal::LengthWrong);
     }
     if on_refused(command) {
-        return Fit::Unfit(refusal::RESERVED_CODE);
+        return Err(Refusal::ReservedCode);
     }
     if MOST_SEQUENCE < sequence {
-        return Fit::Unfit(refusal::VALUE_OUT_OF_RANGE);
+        return Err(Refusal::ValueOutOfRange);
     }
     if MOST_STAMP < stamp_number(stamp) {
-        return Fit::Unfit(refusal::VALUE_OUT_OF_RANGE);
+        return Err(Refusal::ValueOutOfRange);
     }
-    Fit::Octets(front_size(stamp, command) + body.len())
+    Ok(front_size(stamp, command) + body.len())
 }
 
 // A bit of an octet at its place, or 0.
@@ -339,7 +307,7 @@ fn bit(set: bool, place: u8) -> u8
 }
 
 // The octets in front of the data octets, first in an array of as many as they can be.
-fn head_octets(sequence: u8, stamp: Stamp, command: Command) -> [u8; 6]
+fn head_octets(sequence: u8, stamp: Option<u16>, command: Command) -> [u8; 6]
     requires { (sequence ≤ 15) × (unstamped stamp command ≡ false) × (refused_on command ≡ false) }
     ensures { take (front_of stamp command) result ≡ head_octets sequence stamp command }
 {
@@ -369,19 +337,15 @@ pub fn put_fax(
     room: &mut [u8],
     at: usize,
     sequence: u8,
-    stamp: Stamp,
+    stamp: Option<u16>,
     command: Command,
     body: &[u8],
-) -> Put
+) -> Result<usize, Refusal>
     ensures answer { result ≡ put_made room.old at (fax_made sequence stamp command body.now) }
     ensures holds { room.new ≡ left_made room.old at (fax_made sequence stamp command body.now) }
 {
-    match fit_fax(sequence, stamp, command, body) {
-        Fit::Unfit(number) => Put::NotWritten(number),
-        Fit::Octets(_) => {
-            let head = head_octets(sequence, stamp, command);
-            let front = front_size(stamp, command);
-            octets::put_both(room, at, &head[..front], body)
-        }
-    }
+    fit_fax(sequence, stamp, command, body)?;
+    let head = head_octets(sequence, stamp, command);
+    let front = front_size(stamp, command);
+    octets::put_both(room, at, &head[..front], body)
 }

@@ -7,10 +7,11 @@ use native.Mathlib.Omega.{arith}
 use borrow.Author.Tests.{le-ltb}
 use lib.Dec.{ltb}
 use lib.ListN.{take}
+use Rattle.std.specs.declared.option.Option.{Option}
+use Rattle.std.specs.declared.option.Option.TheVariants.{Some}
+use Rattle.std.specs.declared.result.Result.TheVariants.{Ok}
 use Rattle.octets.proofs.Order.{clash}
 use Rattle.replay.specs.Rule.{carried_count}
-use Rattle.fax.specs.declared.Stamp.{Stamp}
-use Rattle.fax.specs.declared.Stamp.TheVariants.{Stamped}
 use Rattle.fax.specs.declared.Command.{Command}
 use Rattle.fax.specs.declared.Command.TheVariants.{On, Page}
 use Rattle.fax.specs.Fax.{code_of, is_page, body_sized}
@@ -33,16 +34,16 @@ one_more (suc (suc zero)) o x y z es few = refl
 one_more (suc (suc (suc lost))) o x y z es few = absurd (omega arith)
 
 -- what end-of-frame and abort have in common
-record Closes (modulation step : ℕ) (stamp : Stamp) (command : Command) (event : Event) : Type 0 where
+record Closes (modulation step : ℕ) (stamp : Option ℕ) (command : Command) (event : Event) : Type 0 where
   needs : needs_modulation command ≡ true
   three : three_times command ≡ true
   sized : body_sized command 3 ≡ true
-  free : (code m : ℕ) (before : Stamp) → 0 ≡ refusal_of (standing true modulation code m before) command 3
+  free : (code m : ℕ) (before : Option ℕ) → refusal_of (standing true modulation code m before) command 3 ≡ Ok tt
   adds : add_count true command step 3 ≡ carried_count (step - 1)
   tells : gap_at true command step ≡ ltb 4 step
   did : events_of (did_by command stamp) ≡ event ∷ []
 
-closes : (modulation step : ℕ) (stamp : Stamp) (c : Closing) → Closes modulation step stamp (command_of c) (closing_event c)
+closes : (modulation step : ℕ) (stamp : Option ℕ) (c : Closing) → Closes modulation step stamp (command_of c) (closing_event c)
 unfolding body_sized
 closes modulation step stamp ended =
     record { needs = refl; three = refl; sized = refl; free = λ code m before. refl; adds = refl; tells = refl; did = refl }
@@ -52,7 +53,7 @@ closes modulation step stamp aborted =
 -- payload number m was taken last, and n was sent last; where the frame is closed, none is lost
 module _ (modulation stopped : ℕ) (late : stopped ≤ 32767) where
   ahead :
-      (items : List Item) (closed : Bool) (lost m n x y z code : ℕ) (before : Stamp) {ps : List (List ℕ)}
+      (items : List Item) (closed : Bool) (lost m n x y z code : ℕ) (before : Option ℕ) {ps : List (List ℕ)}
       → n ≡ m + lost
       → lost ≤ 2
       → (closed ≡ true → lost ≡ 0)
@@ -94,7 +95,7 @@ pub call-runs : (f : Fillers) (s : FaxCall) {ps : List (List ℕ)} → Honest s 
 call-runs f s honest (some again rest) =
     let on : Command = On true s.modulation s.frequency in
     on-runs true s.modulation s.frequency s.first s.begun again honest.tone honest.begun
-    (ahead s.modulation s.stopped honest.stopped s.items true 0 s.first s.first f.newest f.middle f.oldest (code_of on) (Stamped s.begun)
+    (ahead s.modulation s.stopped honest.stopped s.items true 0 s.first s.first f.newest f.middle f.oldest (code_of on) (Some s.begun)
     (omega arith)
     (omega arith)
     (λ e. refl)

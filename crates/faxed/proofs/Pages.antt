@@ -7,9 +7,9 @@ use native.Mathlib.Omega.{arith}
 use borrow.Author.Tests.{ltb-false, eq-eqb, ne_eqb}
 use lib.ListN.{length, get_or, length-reverse}
 use lib.Seq.{take-length}
+use Rattle.std.specs.declared.option.Option.{Option}
+use Rattle.std.specs.declared.option.Option.TheVariants.{Some}
 use Rattle.octets.proofs.Order.{neither}
-use Rattle.fax.specs.declared.Stamp.{Stamp}
-use Rattle.fax.specs.declared.Stamp.TheVariants.{Stamped}
 use Rattle.fax.specs.declared.Command.TheVariants.{On, Page}
 use Rattle.fax.specs.Fax.{code_of, is_page, body_sized, tone_refused}
 use Rattle.faxing.specs.Replay.{fresh_receiver, page_sizes}
@@ -46,7 +46,7 @@ listed_by modulation frequency tone = ltb-false 11 modulation (neither _ _ tone)
 -- payload number m was taken last, and n was sent last
 module _ (modulation stopped again : ℕ) (listed : modulation ≤ 11) (late : stopped ≤ 32767) where
   ahead :
-      (fates : List Fate) (gone m n code : ℕ) (before : Stamp)
+      (fates : List Fate) (gone m n code : ℕ) (before : Option ℕ)
       → n ≡ m + gone
       → gone ≤ 14
       → AllSized modulation fates
@@ -75,7 +75,7 @@ pages-run s honest =
     on-runs false s.modulation s.frequency s.first s.begun s.on_again honest.tone honest.begun
     (ahead s.modulation s.stopped s.off_again (listed_by s.modulation s.frequency honest.tone) honest.stopped s.blocks 0 s.first s.first
     (code_of (On false s.modulation s.frequency))
-    (Stamped s.begun)
+    (Some s.begun)
     (omega arith)
     (omega arith)
     honest.sized

@@ -8,19 +8,18 @@ use borrow.Author.Tests.{eq-eqb, ne_eqb, lt-ltb}
 use lib.Dec.{ltb}
 use lib.ListN.{length, take, replicate, length-reverse}
 use lib.Seq.{take_at, length-take-le}
-use Rattle.refusal.specs.Numbers.{sound}
+use Rattle.std.specs.declared.option.Option.{Option}
+use Rattle.std.specs.declared.option.Option.TheVariants.{None, Some}
+use Rattle.std.specs.declared.result.Result.TheVariants.{Ok}
 use Rattle.counts.specs.Round.{step}
 use Rattle.counts.proofs.Laws.{fax-laws}
 use Rattle.octets.proofs.Order.{clash}
-use Rattle.fax.specs.declared.Stamp.{Stamp}
-use Rattle.fax.specs.declared.Stamp.TheVariants.{NoStamp, Stamped}
 use Rattle.fax.specs.declared.Command.{Command}
 use Rattle.fax.specs.declared.Command.TheVariants.{Off, On, Page, EndOfFrame, Abort}
 use Rattle.fax.specs.Fax.{code_of, head_octets, unstamped, body_sized, tone_refused, refused_on, stamp_number}
 use Rattle.fax.proofs.FaxCases.{Passed, is_made}
 use Rattle.fax.proofs.MadeReads.{made-reads-back}
 use Rattle.faxing.specs.declared.Receiver.{Receiver}
-use Rattle.faxing.specs.declared.Receiver.TheVariants.{InForce}
 use Rattle.faxing.specs.Replay.{fresh_receiver, needs_modulation, three_times, same_stamp, repeats, idle, step_from, add_count, gap_at, handed_on, did_by, taken_in_force, receiver_after, nothing_done, acting, taken_by, received}
 use Rattle.faxing.specs.Private.{refusal_of}
 use Rattle.faxing.proofs.Taken.{acted, repeated, idled}
@@ -30,15 +29,16 @@ use Rattle.faxed.specs.Pages.{gap_after}
 use Rattle.faxed.proofs.Runs.{Runs, joined, first, copies}
 
 -- a modulation is in force, and payload number m was taken just before
-abbrev pub standing : Bool → ℕ → ℕ → ℕ → Stamp → Receiver
-standing hdlc modulation code m stamp = InForce hdlc modulation code (record { 0 = m % 2 ^ 4 }) stamp
+abbrev pub standing : Bool → ℕ → ℕ → ℕ → Option ℕ → Receiver
+standing hdlc modulation code m stamp =
+    record { 0 = Some (record { hdlc = hdlc; modulation = modulation; code = code; last = record { 0 = m % 2 ^ 4 }; stamp = stamp }) }
 
-own-stamp : (stamp : Stamp) → same_stamp stamp stamp ≡ true
-own-stamp NoStamp = refl
-own-stamp (Stamped time) = eq-eqb time time refl
+own-stamp : (stamp : Option ℕ) → same_stamp stamp stamp ≡ true
+own-stamp None = refl
+own-stamp (Some time) = eq-eqb time time refl
 
 -- a payload that can be written
-module _ (n : ℕ) (stamp : Stamp) (command : Command) (body : List ℕ) (written : Passed (n % 2 ^ 4) stamp command body) where
+module _ (n : ℕ) (stamp : Option ℕ) (command : Command) (body : List ℕ) (written : Passed (n % 2 ^ 4) stamp command body) where
   read_as : (r : Receiver) → received r (payload n stamp command body) ≡ taken_by r (n % 2 ^ 4) stamp command body
   unfolding received
   read_as r =
@@ -48,16 +48,16 @@ module _ (n : ℕ) (stamp : Stamp) (command : Command) (body : List ℕ) (writte
       rw (is, back.0, back.1)
 
   new-acts : (r : Receiver)
-      → 0 ≡ refusal_of r command (length body)
+      → refusal_of r command (length body) ≡ Ok tt
       → repeats r command (n % 2 ^ 4) stamp ≡ false
       → idle r command ≡ false
       → received r (payload n stamp command body) ≡ acting r (n % 2 ^ 4) stamp command body (step_from r (n % 2 ^ 4))
-  new-acts r free new on = read_as r ∙ sym (acted r (n % 2 ^ 4) stamp command body 0 free refl new on)
+  new-acts r free new on = read_as r ∙ sym (acted r (n % 2 ^ 4) stamp command body free new on)
 
   -- copies of the payload that was taken just before
   again : (hdlc : Bool) (modulation k : ℕ)
       → let r = standing hdlc modulation (code_of command) n stamp in
-      0 ≡ refusal_of r command (length body)
+      refusal_of r command (length body) ≡ Ok tt
       → three_times command ≡ true
       → Runs r (replicate k (payload n stamp command body)) [] r
   again hdlc modulation k free three =
@@ -65,20 +65,20 @@ module _ (n : ℕ) (stamp : Stamp) (command : Command) (body : List ℕ) (writte
       let same : repeats r command (n % 2 ^ 4) stamp ≡ true =
       simp (three, eq-eqb (code_of command) (code_of command) refl, eq-eqb (n % 2 ^ 4) (n % 2 ^ 4) refl, own-stamp stamp)
       in
-      copies (payload n stamp command body) k (read_as r ∙ sym (repeated r (n % 2 ^ 4) stamp command body 0 free refl same))
+      copies (payload n stamp command body) k (read_as r ∙ sym (repeated r (n % 2 ^ 4) stamp command body free same))
 
 -- modulation-on with none on, which arrives once or more
 pub on-runs :
     (hdlc : Bool) (modulation frequency n begun k : ℕ) {behind : List (List ℕ)} {es : List Event} {to : Receiver}
     → tone_refused modulation frequency ≡ false
     → begun ≤ 32767
-    → Runs (standing hdlc modulation (code_of (On hdlc modulation frequency)) n (Stamped begun)) behind es to
-    → let p = payload n (Stamped begun) (On hdlc modulation frequency) [] in
+    → Runs (standing hdlc modulation (code_of (On hdlc modulation frequency)) n (Some begun)) behind es to
+    → let p = payload n (Some begun) (On hdlc modulation frequency) [] in
     Runs fresh_receiver (p ∷ replicate k p ++ behind) (begins hdlc modulation frequency begun ∷ es) to
 unfolding body_sized acting
 on-runs hdlc modulation frequency n begun k tone fits rest =
     let on : Command = On hdlc modulation frequency in
-    let stamp : Stamp = Stamped begun in
+    let stamp : Option ℕ = Some begun in
     let written : Passed (n % 2 ^ 4) stamp on [] =
     record { stamped = refl; sized = refl; taken = tone; four_bits = omega arith; in-range = fits }
     in
@@ -98,16 +98,16 @@ gap-told (suc lost) = rw (lt-ltb 1 (suc (suc lost)) (omega arith))
 
 off-says :
     (lost : ℕ) (r : Receiver) (n stopped : ℕ)
-    → handed_by (acting r n (Stamped stopped) Off [] (suc lost)) ++ [] ≡ gap_after lost ++ stops stopped ∷ []
+    → handed_by (acting r n (Some stopped) Off [] (suc lost)).answer ++ [] ≡ gap_after lost ++ stops stopped ∷ []
 unfolding acting
 off-says zero r n stopped = refl
 off-says (suc lost) r n stopped = rw (gap-told (suc lost))
 
 -- data, end-of-frame or abort: with a stamp or without, and the modulation stays in force
 record Carries (command : Command) : Type 0 where
-  bare : unstamped NoStamp command ≡ false
+  bare : unstamped None command ≡ false
   taken : refused_on command ≡ false
-  stays : (r : Receiver) (number : ℕ) (stamp : Stamp) → receiver_after r command number stamp ≡ taken_in_force r (code_of command) number stamp
+  stays : (r : Receiver) (number : ℕ) (stamp : Option ℕ) → receiver_after r command number stamp ≡ taken_in_force r (code_of command) number stamp
 
 carries : (command : Command) → needs_modulation command ≡ true → Carries command
 carries Off needs = clash false needs refl
@@ -116,21 +116,21 @@ carries Page needs = record { bare = refl; taken = refl; stays = λ r number sta
 carries EndOfFrame needs = record { bare = refl; taken = refl; stays = λ r number stamp. refl }
 carries Abort needs = record { bare = refl; taken = refl; stays = λ r number stamp. refl }
 
-may-lack : (stamp : Stamp) (command : Command) → unstamped NoStamp command ≡ false → unstamped stamp command ≡ false
-may-lack NoStamp command bare = bare
-may-lack (Stamped time) command bare = refl
+may-lack : (stamp : Option ℕ) (command : Command) → unstamped None command ≡ false → unstamped stamp command ≡ false
+may-lack None command bare = bare
+may-lack (Some time) command bare = refl
 
 -- payload number m was taken just before, as many are lost, and the payload after number n comes
-module _ (hdlc : Bool) (modulation code m : ℕ) (before : Stamp) (n lost : ℕ) (after : n ≡ m + lost) (few : lost ≤ 14) where
+module _ (hdlc : Bool) (modulation code m : ℕ) (before : Option ℕ) (n lost : ℕ) (after : n ≡ m + lost) (few : lost ≤ 14) where
   abbrev r : Receiver
   r = standing hdlc modulation code m before
 
   abbrev next : ℕ
   next = (n + 1) % 2 ^ 4
 
-  acts : (stamp : Stamp) (command : Command) (body : List ℕ)
+  acts : (stamp : Option ℕ) (command : Command) (body : List ℕ)
       → Passed next stamp command body
-      → 0 ≡ refusal_of r command (length body)
+      → refusal_of r command (length body) ≡ Ok tt
       → received r (payload (n + 1) stamp command body) ≡ acting r next stamp command body (suc lost)
   acts stamp command body written free =
       new-acts (n + 1) stamp command body written r free (simp (ne_eqb (m % 2 ^ 4) next (λ e. omega arith), and-false)) (simp and-false)
@@ -139,11 +139,11 @@ module _ (hdlc : Bool) (modulation code m : ℕ) (before : Stamp) (n lost : ℕ)
 
   -- data, end-of-frame or abort, of which so many octets are handed on, with a gap before them or none
   module _
-      (stamp : Stamp) (command : Command) (body : List ℕ) (count : ℕ) (gaps : List Event)
+      (stamp : Option ℕ) (command : Command) (body : List ℕ) (count : ℕ) (gaps : List Event)
       (needs : needs_modulation command ≡ true)
       (sized : body_sized command (length body) ≡ true)
       (fits : stamp_number stamp ≤ 32767)
-      (free : (code m : ℕ) (before : Stamp) → 0 ≡ refusal_of (standing hdlc modulation code m before) command (length body))
+      (free : (code m : ℕ) (before : Option ℕ) → refusal_of (standing hdlc modulation code m before) command (length body) ≡ Ok tt)
       (adds : add_count hdlc command (suc lost) (length body) ≡ count)
       (has : count ≤ length body)
       (tells : cond (gap_at hdlc command (suc lost)) (gap ∷ []) [] ≡ gaps)
@@ -156,7 +156,7 @@ module _ (hdlc : Bool) (modulation code m : ℕ) (before : Stamp) (n lost : ℕ)
           let c = carries command needs in
           record { stamped = may-lack stamp command c.bare; sized = sized; taken = c.taken; four_bits = omega arith; in-range = fits }
 
-      says : (es : List Event) → handed_by (acting r next stamp command body (suc lost)) ++ es ≡ told es
+      says : (es : List Event) → handed_by (acting r next stamp command body (suc lost)).answer ++ es ≡ told es
       unfolding acting
       says es =
           rw (adds, handed-places count body has, tells)
@@ -180,15 +180,15 @@ module _ (hdlc : Bool) (modulation code m : ℕ) (before : Stamp) (n lost : ℕ)
   -- modulation-off, which arrives once or more
   pub off-runs : (stopped k : ℕ)
       → stopped ≤ 32767
-      → let p = payload (n + 1) (Stamped stopped) Off [] in
+      → let p = payload (n + 1) (Some stopped) Off [] in
       Runs r (p ∷ replicate k p) (gap_after lost ++ stops stopped ∷ []) fresh_receiver
   unfolding body_sized acting
   off-runs stopped k fits =
-      let stamp : Stamp = Stamped stopped in
+      let stamp : Option ℕ = Some stopped in
       let written : Passed next stamp Off [] =
       record { stamped = refl; sized = refl; taken = refl; four_bits = omega arith; in-range = fits }
       in
-      let nothing : received fresh_receiver (payload (n + 1) stamp Off []) ≡ nothing_done fresh_receiver sound =
-      read_as (n + 1) stamp Off [] written fresh_receiver ∙ sym (idled fresh_receiver next stamp Off [] 0 refl refl refl refl)
+      let nothing : received fresh_receiver (payload (n + 1) stamp Off []) ≡ nothing_done fresh_receiver =
+      read_as (n + 1) stamp Off [] written fresh_receiver ∙ sym (idled fresh_receiver next stamp Off [] refl refl refl)
       in
       first (acts stamp Off [] written refl) (copies (payload (n + 1) stamp Off []) k nothing) (off-says lost r next stopped)

@@ -1,8 +1,8 @@
 -- What the fax replay hands to the modulator, as one list of events in order.
-use Rattle.std.specs.Prelude.{ℕ, List, [], ◌∷◌, ◌++◌, map, Bool, cond, eqb, take}
-use Rattle.refusal.specs.Numbers.{sound}
+use Rattle.std.specs.Prelude.{ℕ, List, [], ◌∷◌, ◌++◌, map, Bool, cond, take, Result, Ok, Err}
+use Rattle.refusal.specs.declared.Refusal.{Refusal}
 use Rattle.faxing.specs.declared.Receiver.{Receiver}
-use Rattle.faxing.specs.declared.Received.{Received}
+use Rattle.faxing.specs.declared.Handed.{Handed}
 use Rattle.faxing.specs.declared.Did.{Did}
 use Rattle.faxing.specs.declared.Did.TheVariants.{Nothing, Began, Stopped, Added, Ended, Aborted}
 use Rattle.faxing.specs.Replay.{received}
@@ -16,7 +16,7 @@ pub data Event : Type 0 where
   ends : Event
   aborts : Event
   stops : ℕ → Event
-  refused : ℕ → Event
+  refused : Refusal → Event
 
 abbrev pub events_of : Did → List Event
 events_of Nothing = []
@@ -26,18 +26,15 @@ events_of Added = []
 events_of Ended = ends ∷ []
 events_of Aborted = aborts ∷ []
 
--- of one answer: the refusal, the gap, so many of the octets, what was done
-abbrev pub events_by : ℕ → Bool → ℕ → List ℕ → Did → List Event
-events_by number missing count octets did =
-    cond (eqb number sound) [] (refused number ∷ []) ++ cond missing (gap ∷ []) [] ++ map page (take count octets) ++ events_of did
-
-abbrev pub handed_by : Received → List Event
-handed_by a = events_by a.number a.gap a.count a.octets a.did
+-- of one answer: the gap, so many of the octets, what was done; or the refusal alone
+abbrev pub handed_by : Result Handed Refusal → List Event
+handed_by (Ok h) = cond h.gap (gap ∷ []) [] ++ map page (take h.count h.octets) ++ events_of h.did
+handed_by (Err refusal) = refused refusal ∷ []
 
 -- of payloads one after the other
 abbrev pub handed : Receiver → List (List ℕ) → List Event
 handed r [] = []
-handed r (payload ∷ payloads) = handed_by (received r payload) ++ handed (received r payload).receiver payloads
+handed r (payload ∷ payloads) = handed_by (received r payload).answer ++ handed (received r payload).receiver payloads
 
 -- the replay after them
 abbrev pub after : Receiver → List (List ℕ) → Receiver

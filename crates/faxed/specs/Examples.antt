@@ -1,10 +1,9 @@
 -- Worked runs of the fax replay where the theorems do not hold, or only just (document 02, wish 1): what the user must know. Worked by
 -- hand; proofs/Examples.antt computes them.
-use Rattle.std.specs.Prelude.{ℕ, ◌≡◌, List, [], ◌∷◌, ◌++◌, map, true, false, replicate}
+use Rattle.std.specs.Prelude.{ℕ, ◌≡◌, List, [], ◌∷◌, ◌++◌, map, true, false, replicate, Option, None, Some}
+use Rattle.refusal.specs.declared.Refusal.TheVariants.{NoModulation}
 use Rattle.record.specs.declared.syntax.Syntax.TheVariants.{Acelp}
-use Rattle.record.specs.declared.table.Found.{Found}
-use Rattle.record.specs.declared.table.Found.TheVariants.{Provisioned}
-use Rattle.fax.specs.declared.Stamp.TheVariants.{NoStamp}
+use Rattle.record.specs.declared.syntax.Record.{Record}
 use Rattle.faxing.specs.Replay.{fresh_receiver}
 use Rattle.faxing.specs.Examples.{on, page_on, hdlc, end, t4, off, one, two}
 use Rattle.faxed.specs.Events.{begins, page, gap, ends, stops, refused, handed}
@@ -16,8 +15,8 @@ use Rattle.faxed.specs.Trunks.{Coming, fax_among}
 
 -- A call of one frame with the octets 65 to 68 (41 to 44), and the payloads sent for it.
 abbrev frame : List ℕ → List Item
-frame [] = close ended NoStamp ∷ []
-frame (o ∷ os) = octet o NoStamp ∷ frame os
+frame [] = close ended None ∷ []
+frame (o ∷ os) = octet o None ∷ frame os
 
 abbrev pub call : FaxCall
 call =
@@ -51,8 +50,8 @@ Met = Honest call × Arrives 0 (sent ones call) arrived
 
 -- What `TrunkHandsComplete` asks can be met: the same payloads, each once, on an acelp sub-channel (type 3), with voice before them, and
 -- a digits payload and one of a type that no sub-channel has between them.
-abbrev acelp : Found
-acelp = Provisioned (record { syntax = Acelp; m = 1; seq = false })
+abbrev acelp : Option Record
+acelp = Some (record { syntax = Acelp; m = 1; seq = false })
 
 abbrev coming : ℕ → List ℕ → Coming
 coming ptype octets = record { ptype = ptype; octets = octets }
@@ -73,7 +72,7 @@ TrunkMet =
 
 -- What `PagesHanded` asks can be met: three payloads at 2400 bit/s, the second lost; and a single tone of 1,100 Hz.
 abbrev block : ℕ → Block
-block o = record { octets = replicate 12 o; stamp = NoStamp }
+block o = record { octets = replicate 12 o; stamp = None }
 
 abbrev pub page_call : PageCall
 page_call =
@@ -139,7 +138,7 @@ pub record Worked : Type 0 where
   -- A copy of modulation-off that comes late stops the next call: its data is refused with 41.
   pub late_off :
       handed fresh_receiver (on ∷ hdlc 1 65 255 255 ∷ end 2 65 255 255 ∷ off 3 ∷ later_on ∷ off 3 ∷ hdlc 1 65 255 255 ∷ [])
-      ≡ begins true 1 0 1000 ∷ page 65 ∷ ends ∷ stops 1500 ∷ begins true 1 0 2000 ∷ gap ∷ stops 1500 ∷ refused 41 ∷ []
+      ≡ begins true 1 0 1000 ∷ page 65 ∷ ends ∷ stops 1500 ∷ begins true 1 0 2000 ∷ gap ∷ stops 1500 ∷ refused NoModulation ∷ []
   -- A copy of an end that comes late ends the next frame, with all its three places after a gap.
   pub late_end :
       handed fresh_receiver (on ∷ hdlc 1 65 255 255 ∷ end 2 65 255 255 ∷ hdlc 3 66 65 255 ∷ end 2 65 255 255 ∷ [])

@@ -1,8 +1,6 @@
 -- A call without HDLC (document 02, wish 1; FRF.11, D.4.2): T.4 data, or a single tone, which has none; what is handed on of what
 -- arrives. Proved in proofs/Pages.antt.
-use Rattle.std.specs.Prelude.{ℕ, zero, suc, ◌+◌, ◌*◌, ◌/◌, ◌<◌, ◌≤◌, ◌≡◌, List, [], ◌∷◌, ◌++◌, map, reverse, false, length, get_or, replicate}
-use Rattle.fax.specs.declared.Stamp.{Stamp}
-use Rattle.fax.specs.declared.Stamp.TheVariants.{Stamped}
+use Rattle.std.specs.Prelude.{ℕ, zero, suc, ◌+◌, ◌*◌, ◌/◌, ◌<◌, ◌≤◌, ◌≡◌, List, [], ◌∷◌, ◌++◌, map, reverse, false, length, get_or, replicate, Option, Some}
 use Rattle.fax.specs.declared.Command.TheVariants.{Off, On, Page}
 use Rattle.fax.specs.Fax.{stamp_number, tone_refused}
 use Rattle.faxing.specs.Replay.{fresh_receiver}
@@ -12,7 +10,7 @@ use Rattle.faxed.specs.Run.{payload}
 -- the octets of one payload, oldest first; any may have a stamp
 pub record Block : Type 0 where
   pub octets : List ℕ
-  pub stamp : Stamp
+  pub stamp : Option ℕ
 
 -- a payload that arrives, or is lost
 pub data Fate : Type 0 where
@@ -34,13 +32,13 @@ pub record PageCall : Type 0 where
 -- What arrives behind the payload number n: each payload has the number after the one sent before it, and its octets newest first.
 abbrev pub came_after : ℕ → List Fate → ℕ → ℕ → List (List ℕ)
 came_after n [] stopped again =
-    payload (n + 1) (Stamped stopped) Off [] ∷ replicate again (payload (n + 1) (Stamped stopped) Off [])
+    payload (n + 1) (Some stopped) Off [] ∷ replicate again (payload (n + 1) (Some stopped) Off [])
 came_after n (arrives b ∷ more) stopped again =
     payload (n + 1) b.stamp Page (reverse b.octets) ∷ came_after (n + 1) more stopped again
 came_after n (lost b ∷ more) stopped again = came_after (n + 1) more stopped again
 
 abbrev pub on_of : PageCall → List ℕ
-on_of s = payload s.first (Stamped s.begun) (On false s.modulation s.frequency) []
+on_of s = payload s.first (Some s.begun) (On false s.modulation s.frequency) []
 
 abbrev pub came : PageCall → List (List ℕ)
 came s = on_of s ∷ replicate s.on_again (on_of s) ++ came_after s.first s.blocks s.stopped s.off_again

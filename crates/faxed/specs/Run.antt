@@ -1,8 +1,6 @@
 -- An honest HDLC run (document 02, wish 1; FRF.11, D.4.1): what is sent, and what of it arrives.
-use Rattle.std.specs.Prelude.{ℕ, suc, ◌+◌, ◌%◌, ◌^◌, ◌<◌, ◌≤◌, ◌≡◌, List, [], ◌∷◌, ◌++◌, Bool, true, false, replicate}
+use Rattle.std.specs.Prelude.{ℕ, suc, ◌+◌, ◌%◌, ◌^◌, ◌<◌, ◌≤◌, ◌≡◌, List, [], ◌∷◌, ◌++◌, Bool, true, false, replicate, Option, Some}
 use Rattle.octets.specs.Made.{octets_of}
-use Rattle.fax.specs.declared.Stamp.{Stamp}
-use Rattle.fax.specs.declared.Stamp.TheVariants.{Stamped}
 use Rattle.fax.specs.declared.Command.{Command}
 use Rattle.fax.specs.declared.Command.TheVariants.{Off, On, Page, EndOfFrame, Abort}
 use Rattle.fax.specs.Fax.{fax_made, stamp_number, tone_refused}
@@ -15,7 +13,7 @@ pub data Sending : Type 0 where
   thrice : List ℕ → Sending
 
 -- the payload number n, counted on from modulation-on; it is written modulo 16
-abbrev pub payload : ℕ → Stamp → Command → List ℕ → List ℕ
+abbrev pub payload : ℕ → Option ℕ → Command → List ℕ → List ℕ
 payload n stamp command body = octets_of (fax_made (n % 2 ^ 4) stamp command body)
 
 -- one after the other: an octet of the frame at hand, or the end of that frame by end-of-frame or abort; any of them may have a stamp
@@ -24,8 +22,8 @@ pub data Closing : Type 0 where
   aborted : Closing
 
 pub data Item : Type 0 where
-  octet : ℕ → Stamp → Item
-  close : Closing → Stamp → Item
+  octet : ℕ → Option ℕ → Item
+  close : Closing → Option ℕ → Item
 
 abbrev pub command_of : Closing → Command
 command_of ended = EndOfFrame
@@ -44,7 +42,7 @@ pub record FaxCall : Type 0 where
 -- its two predecessors"; an end has "the same three bytes of data as the previous data payload" (D.4.1); "Modulation-off takes the
 -- number after the last payload before it (house)".
 abbrev pub sent_after : ℕ → ℕ → ℕ → ℕ → List Item → ℕ → List Sending
-sent_after n x y z [] stopped = thrice (payload (n + 1) (Stamped stopped) Off []) ∷ []
+sent_after n x y z [] stopped = thrice (payload (n + 1) (Some stopped) Off []) ∷ []
 sent_after n x y z (octet o stamp ∷ items) stopped =
     once (payload (n + 1) stamp Page (o ∷ x ∷ y ∷ [])) ∷ sent_after (n + 1) o x y items stopped
 sent_after n x y z (close c stamp ∷ items) stopped =
@@ -62,7 +60,7 @@ ones = record { newest = 255; middle = 255; oldest = 255 }
 -- a call
 abbrev pub sent : Fillers → FaxCall → List Sending
 sent f s =
-    thrice (payload s.first (Stamped s.begun) (On true s.modulation s.frequency) [])
+    thrice (payload s.first (Some s.begun) (On true s.modulation s.frequency) [])
     ∷ sent_after s.first f.newest f.middle f.oldest s.items s.stopped
 
 -- "each frame closed by end-of-frame or abort": so it stands before the items, and so behind them

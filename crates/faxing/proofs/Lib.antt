@@ -1,4 +1,4 @@
-pub mod Handed
+pub mod Places
 pub mod Taken
 pub mod Refused
 pub mod Examples

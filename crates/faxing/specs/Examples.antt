@@ -1,41 +1,35 @@
 -- Worked runs of a fax replay from its start (document 02, wish 1), on the definitions: what each payload hands on. Worked by hand;
 -- proofs/Examples.antt computes them.
-use Rattle.std.specs.Prelude.{ℕ, ◌+◌, ◌*◌, ◌≡◌, List, [], ◌∷◌, reverse, Bool, true, false, take, replicate}
-use Rattle.refusal.specs.Numbers.{sound}
+use Rattle.std.specs.Prelude.{ℕ, ◌+◌, ◌-◌, ◌*◌, ◌≡◌, List, [], ◌∷◌, ◌++◌, reverse, Bool, true, false, length, replicate, Result, Ok, Err}
+use Rattle.refusal.specs.declared.Refusal.{Refusal}
+use Rattle.refusal.specs.declared.Refusal.TheVariants.{NoModulation, AgainstModulation}
 use Rattle.faxing.specs.declared.Receiver.{Receiver}
-use Rattle.faxing.specs.declared.Received.{Received}
+use Rattle.faxing.specs.declared.Handed.{Handed}
 use Rattle.faxing.specs.declared.Did.{Did}
 use Rattle.faxing.specs.declared.Did.TheVariants.{Nothing, Began, Stopped, Added, Ended, Aborted}
 use Rattle.faxing.specs.Replay.{fresh_receiver, received}
 
--- what is handed on of a payload: the number, whether octets are missing, the octets, what it did
-pub record Handed : Type 0 where
-  pub number : ℕ
-  pub gap : Bool
-  pub octets : List ℕ
-  pub did : Did
-
-abbrev pub told_by : Received → Handed
-told_by a = record { number = a.number; gap = a.gap; octets = take a.count a.octets; did = a.did }
-
-abbrev pub told : Receiver → List (List ℕ) → List Handed
+-- the answers to payloads that come one after the other
+abbrev pub told : Receiver → List (List ℕ) → List (Result Handed Refusal)
 told r [] = []
-told r (payload ∷ payloads) = told_by (received r payload) ∷ told (received r payload).receiver payloads
+told r (payload ∷ payloads) = (received r payload).answer ∷ told (received r payload).receiver payloads
 
-abbrev hands : Bool → List ℕ → Did → Handed
-hands gap octets did = record { number = sound; gap = gap; octets = octets; did = did }
+-- these octets, with zeros behind them
+abbrev hands : Bool → List ℕ → Did → Result Handed Refusal
+hands gap octets did =
+    Ok (record { gap = gap; count = length octets; octets = octets ++ replicate (72 - length octets) 0; did = did })
 
-abbrev refuses : ℕ → Handed
-refuses number = record { number = number; gap = false; octets = []; did = Nothing }
+abbrev refuses : Refusal → Result Handed Refusal
+refuses refusal = Err refusal
 
 -- modulation began at `on`, nothing was done, modulation stopped at `off`
-abbrev begun : Handed
+abbrev begun : Result Handed Refusal
 begun = hands false [] (Began true 1 0 1000)
 
-abbrev nothing : Handed
+abbrev nothing : Result Handed Refusal
 nothing = hands false [] Nothing
 
-abbrev stopped : Handed
+abbrev stopped : Result Handed Refusal
 stopped = hands false [] (Stopped 1500)
 
 -- Payloads. Modulation-on, number 0, at 1,000 ms: with HDLC and V.21 (81e803810000), or without HDLC at 2400 bit/s.
@@ -107,8 +101,8 @@ pub record Worked : Type 0 where
       told fresh_receiver
       (hdlc 1 65 255 255 ∷ end 4 67 66 65 ∷ abort 4 67 66 65 ∷ off 5
       ∷ on ∷ t4 1 one ∷ (129 ∷ 233 ∷ 3 ∷ 2 ∷ 0 ∷ 0 ∷ []) ∷ hdlc 1 65 255 255 ∷ end 4 67 66 65 ∷ abort 4 67 66 65 ∷ [])
-      ≡ refuses 41 ∷ refuses 41 ∷ refuses 41 ∷ nothing
-      ∷ begun ∷ refuses 42 ∷ hands false [] (Began false 2 0 1001) ∷ refuses 42 ∷ refuses 42 ∷ refuses 42 ∷ []
+      ≡ refuses NoModulation ∷ refuses NoModulation ∷ refuses NoModulation ∷ nothing
+      ∷ begun ∷ refuses AgainstModulation ∷ hands false [] (Began false 2 0 1001) ∷ refuses AgainstModulation ∷ refuses AgainstModulation ∷ refuses AgainstModulation ∷ []
   -- T.4 at 2400 bit/s, oldest octet first; a step of 0 adds nothing, one of 2 tells a gap.
   pub at_twelve_octets :
       told fresh_receiver (page_on ∷ t4 1 one ∷ t4 1 (replicate 12 238) ∷ t4 3 two ∷ off 4 ∷ [])
@@ -116,7 +110,7 @@ pub record Worked : Type 0 where
   -- A single tone of 1,100 Hz carries no data.
   pub single_tone :
       told fresh_receiver ((129 ∷ 232 ∷ 3 ∷ 0 ∷ 76 ∷ 4 ∷ []) ∷ hdlc 1 65 255 255 ∷ off 1 ∷ [])
-      ≡ hands false [] (Began false 0 1100 1000) ∷ refuses 42 ∷ stopped ∷ []
+      ≡ hands false [] (Began false 0 1100 1000) ∷ refuses AgainstModulation ∷ stopped ∷ []
   -- An end of the same number with a stamp is another end; an off two numbers on tells a gap.
   pub another_stamp :
       told fresh_receiver (on ∷ hdlc 1 65 255 255 ∷ end 2 65 255 255 ∷ (147 ∷ 100 ∷ 0 ∷ 65 ∷ 255 ∷ 255 ∷ []) ∷ off 4 ∷ [])

@@ -1,36 +1,34 @@
 -- The fax replay (document 02, wish 1; FRF.11, Annex D): what a fax payload of a sub-channel brings about.
-use Rattle.std.specs.Prelude.{ℕ, ◌-◌, List, [], ◌∷◌, ◌++◌, reverse, Bool, true, false, cond, not, ◌&&◌, ltb, eqb, length, get_or, take, drop, replicate}
-use Rattle.refusal.specs.Numbers.{sound, no_modulation, against_modulation}
+use Rattle.std.specs.Prelude.{ℕ, ◌-◌, List, [], ◌∷◌, ◌++◌, reverse, Bool, true, false, cond, not, ◌&&◌, ltb, eqb, length, get_or, take, drop, replicate, Option, None, Some, Result, Ok, Err}
+use Rattle.std.specs.Option.{is_some, option_map, option_map_or}
+use Rattle.refusal.specs.declared.Refusal.{Refusal}
+use Rattle.refusal.specs.declared.Refusal.TheVariants.{NoModulation, AgainstModulation}
+use Rattle.refusal.specs.Numbers.{sound, number}
 use Rattle.refusal.specs.Order.{Test, ◌gives◌, in_order}
 use Rattle.counts.specs.Round.{step}
 use Rattle.replay.specs.Rule.{carried_count}
-use Rattle.fax.specs.declared.Stamp.{Stamp}
-use Rattle.fax.specs.declared.Stamp.TheVariants.{NoStamp, Stamped}
 use Rattle.fax.specs.declared.Command.{Command}
 use Rattle.fax.specs.declared.Command.TheVariants.{Off, On, Page, EndOfFrame, Abort}
-use Rattle.fax.specs.declared.FaxRead.{FaxRead}
-use Rattle.fax.specs.declared.FaxRead.TheVariants.{Fax, BadFax}
+use Rattle.fax.specs.declared.Fax.{Fax}
 use Rattle.fax.specs.Fax.{code_of, stamp_number, fax_read}
 use Rattle.faxing.specs.declared.Receiver.{Receiver}
-use Rattle.faxing.specs.declared.Receiver.TheVariants.{NoneOn, InForce}
+use Rattle.faxing.specs.declared.InForce.{InForce}
 use Rattle.faxing.specs.declared.Did.{Did}
 use Rattle.faxing.specs.declared.Did.TheVariants.{Nothing, Began, Stopped, Added, Ended, Aborted}
-use Rattle.faxing.specs.declared.Received.{Received}
+use Rattle.faxing.specs.declared.Handed.{Handed}
 
 -- ---- The state: no modulation is on; or one is, and of the payload taken just before it has the command's code, the number and the
 -- stamp. With none on, the payload taken just before was an off, if there was one, and only an off could repeat it: that does nothing
 -- either way.
 
 abbrev pub fresh_receiver : Receiver
-fresh_receiver = NoneOn
+fresh_receiver = record { 0 = None }
 
 abbrev pub is_on : Receiver → Bool
-is_on NoneOn = false
-is_on (InForce hdlc modulation code last stamp) = true
+is_on r = is_some r.0
 
 abbrev pub under_hdlc : Receiver → Bool
-under_hdlc NoneOn = false
-under_hdlc (InForce hdlc modulation code last stamp) = hdlc
+under_hdlc r = option_map_or (λ (on : InForce). on.hdlc) r.0 false
 
 -- ---- "Refusals: 41 .. 42 ..; after 15, 41 first."
 
@@ -41,8 +39,7 @@ page_sizes = 0 ∷ 0 ∷ 12 ∷ 24 ∷ 36 ∷ 48 ∷ 60 ∷ 72 ∷ 36 ∷ 48 ∷
 
 -- the data octets that the modulation in force asks: "3 under HDLC"
 abbrev pub data_size : Receiver → ℕ
-data_size NoneOn = 0
-data_size (InForce hdlc modulation code last stamp) = cond hdlc 3 (get_or page_sizes modulation 0)
+data_size r = option_map_or (λ (on : InForce). cond on.hdlc 3 (get_or page_sizes on.modulation 0)) r.0 0
 
 -- "data, end-of-frame or abort"
 abbrev pub needs_modulation : Command → Bool
@@ -63,26 +60,27 @@ against r Abort size = not (under_hdlc r)
 -- of a payload with so many data octets
 abbrev pub refusals : Receiver → Command → ℕ → List Test
 refusals r command size =
-    (needs_modulation command && not (is_on r)) gives no_modulation
-    ∷ against r command size gives against_modulation
+    (needs_modulation command && not (is_on r)) gives NoModulation
+    ∷ against r command size gives AgainstModulation
     ∷ []
 
 -- ---- "each acts once, a repeat being the same command, number and stamp as the payload taken just before"
 
-abbrev pub same_stamp : Stamp → Stamp → Bool
-same_stamp NoStamp NoStamp = true
-same_stamp NoStamp (Stamped b) = false
-same_stamp (Stamped a) NoStamp = false
-same_stamp (Stamped a) (Stamped b) = eqb a b
+abbrev pub same_stamp : Option ℕ → Option ℕ → Bool
+same_stamp None None = true
+same_stamp None (Some b) = false
+same_stamp (Some a) None = false
+same_stamp (Some a) (Some b) = eqb a b
 
 -- "Modulation-on, modulation-off, end-of-frame and abort each come three times": data does not.
 abbrev pub three_times : Command → Bool
 three_times command = not (eqb (code_of command) (code_of Page))
 
-abbrev pub repeats : Receiver → Command → ℕ → Stamp → Bool
-repeats NoneOn command number stamp = false
-repeats (InForce hdlc modulation code last before) command number stamp =
-    three_times command && (eqb code (code_of command) && (eqb last.0 number && same_stamp before stamp))
+abbrev pub repeats : Receiver → Command → ℕ → Option ℕ → Bool
+repeats r command number stamp =
+    option_map_or
+    (λ (on : InForce). three_times command && (eqb on.code (code_of command) && (eqb on.last.0 number && same_stamp on.stamp stamp)))
+    r.0 false
 
 -- "An off that is no repeat, with none on, changes nothing."
 abbrev pub idle : Receiver → Command → Bool
@@ -92,8 +90,7 @@ idle r command = eqb (code_of command) (code_of Off) && not (is_on r)
 
 -- the step from the payload taken just before, modulo 16; with none on that is not kept, and no step is asked for
 abbrev pub step_from : Receiver → ℕ → ℕ
-step_from NoneOn number = 0
-step_from (InForce hdlc modulation code last stamp) number = step 4 last.0 number
+step_from r number = option_map_or (λ (on : InForce). step 4 on.last.0 number) r.0 0
 
 -- How many of its octets. Data under HDLC: "a step of 1, 2 or 3 modulo 16 adds that many octets ..; from 4 on, all three". "An
 -- end-of-frame or abort adds one octet fewer than its step, at most three". "step 0 adds nothing anywhere".
@@ -118,7 +115,7 @@ abbrev pub handed_on : ℕ → List ℕ → List ℕ
 handed_on n body = reverse (take n body) ++ replicate (72 - n) 0
 
 -- what the command does, with what the modulator needs
-abbrev pub did_by : Command → Stamp → Did
+abbrev pub did_by : Command → Option ℕ → Did
 did_by Off stamp = Stopped (stamp_number stamp)
 did_by (On hdlc modulation frequency) stamp = Began hdlc modulation frequency (stamp_number stamp)
 did_by Page stamp = Added
@@ -126,49 +123,87 @@ did_by EndOfFrame stamp = Ended
 did_by Abort stamp = Aborted
 
 -- The replay after a payload that is taken, which is then the one taken just before. On has any number, and data goes on from it.
-abbrev pub taken_in_force : Receiver → ℕ → ℕ → Stamp → Receiver
-taken_in_force NoneOn code number stamp = NoneOn
-taken_in_force (InForce hdlc modulation before last beforehand) code number stamp =
-    InForce hdlc modulation code (record { 0 = number }) stamp
+abbrev pub taken_in_force : Receiver → ℕ → ℕ → Option ℕ → Receiver
+taken_in_force r code number stamp =
+    record {
+      0 = option_map
+          (λ (on : InForce). record { hdlc = on.hdlc; modulation = on.modulation; code = code; last = record { 0 = number }; stamp = stamp })
+          r.0;
+    }
 
-abbrev pub receiver_after : Receiver → Command → ℕ → Stamp → Receiver
-receiver_after r Off number stamp = NoneOn
+abbrev pub receiver_after : Receiver → Command → ℕ → Option ℕ → Receiver
+receiver_after r Off number stamp = record { 0 = None }
 receiver_after r (On hdlc modulation frequency) number stamp =
-    InForce hdlc modulation (code_of (On hdlc modulation frequency)) (record { 0 = number }) stamp
+    record {
+      0 = Some (record {
+        hdlc = hdlc;
+        modulation = modulation;
+        code = code_of (On hdlc modulation frequency);
+        last = record { 0 = number };
+        stamp = stamp;
+      });
+    }
 receiver_after r Page number stamp = taken_in_force r (code_of Page) number stamp
 receiver_after r EndOfFrame number stamp = taken_in_force r (code_of EndOfFrame) number stamp
 receiver_after r Abort number stamp = taken_in_force r (code_of Abort) number stamp
 
 -- ---- The answer
 
--- a refusal, a repeat, an off with none on: the number, and the replay as it was
-abbrev pub nothing_done : Receiver → ℕ → Received
-nothing_done r number =
-    record { number = number; gap = false; count = 0; octets = replicate 72 0; did = Nothing; receiver = r }
+-- What becomes of a payload: what it hands on, or its refusal; and the replay after it.
+pub record Received : Type 0 where
+  pub answer : Result Handed Refusal
+  pub receiver : Receiver
+
+-- The number of an answer, 0 where it is no refusal; and what it hands on: beside a refusal nothing.
+abbrev pub number_of : Result Handed Refusal → ℕ
+number_of (Ok handed) = sound
+number_of (Err refusal) = number refusal
+
+abbrev pub nothing_handed : Handed
+nothing_handed = record { gap = false; count = 0; octets = replicate 72 0; did = Nothing }
+
+abbrev pub handed_of : Result Handed Refusal → Handed
+handed_of (Ok handed) = handed
+handed_of (Err refusal) = nothing_handed
+
+abbrev pub number_in : Received → ℕ
+number_in x = number_of x.answer
+
+abbrev pub handed_in : Received → Handed
+handed_in x = handed_of x.answer
+
+-- a repeat, or an off with none on: the replay as it was
+abbrev pub nothing_done : Receiver → Received
+nothing_done r = record { answer = Ok nothing_handed; receiver = r }
+
+-- a refusal: the replay as it was
+abbrev pub refused : Receiver → Refusal → Received
+refused r refusal = record { answer = Err refusal; receiver = r }
 
 -- a payload that is taken, with this step
-unfoldable pub acting : Receiver → ℕ → Stamp → Command → List ℕ → ℕ → Received
+unfoldable pub acting : Receiver → ℕ → Option ℕ → Command → List ℕ → ℕ → Received
 acting r number stamp command body step =
     let count = add_count (under_hdlc r) command step (length body) in
     record {
-      number = sound;
-      gap = gap_at (under_hdlc r) command step;
-      count = count;
-      octets = handed_on count body;
-      did = did_by command stamp;
+      answer = Ok (record {
+        gap = gap_at (under_hdlc r) command step;
+        count = count;
+        octets = handed_on count body;
+        did = did_by command stamp;
+      });
       receiver = receiver_after r command number stamp;
     }
 
 -- a payload that is read, with its data octets
-unfoldable pub taken_by : Receiver → ℕ → Stamp → Command → List ℕ → Received
+unfoldable pub taken_by : Receiver → ℕ → Option ℕ → Command → List ℕ → Received
 taken_by r number stamp command body =
-    in_order (refusals r command (length body)) (nothing_done r)
-    (cond (repeats r command number stamp) (nothing_done r sound)
-    (cond (idle r command) (nothing_done r sound) (acting r number stamp command body (step_from r number))))
+    in_order (refusals r command (length body)) (refused r)
+    (cond (repeats r command number stamp) (nothing_done r)
+    (cond (idle r command) (nothing_done r) (acting r number stamp command body (step_from r number))))
 
-abbrev pub received_by : Receiver → List ℕ → FaxRead → Received
-received_by r payload (Fax number stamp command front) = taken_by r number stamp command (drop front payload)
-received_by r payload (BadFax number) = nothing_done r number
+abbrev pub received_by : Receiver → List ℕ → Result Fax Refusal → Received
+received_by r payload (Ok fax) = taken_by r fax.sequence fax.stamp fax.command (drop fax.front payload)
+received_by r payload (Err refusal) = refused r refusal
 
 -- What reading refuses comes first.
 unfoldable pub received : Receiver → List ℕ → Received

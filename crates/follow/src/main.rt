@@ -12,23 +12,14 @@ use std::env::{Env, FillError};
 use std::io::Read;
 use streaming::input::Piece;
 use trunk::Trunk;
-use value::Value;
 
-// Where a piece is followed up to, how the next line stands, the trunk, and whether printing went well.
+// Where a piece is followed up to, how the next line stands, and whether printing went well.
 #[derive(Clone, Copy)]
 struct Stands {
     at: usize,
     have: usize,
     number: u64,
-    trunk: Trunk,
     well: bool,
-}
-
-// The program's argument.
-#[derive(Clone, Copy)]
-enum Argument {
-    Cid(u8),
-    NoCid,
 }
 
 // Follows a piece of the input, as much of it as the room for the output takes: some of it, since that has room for a line.
@@ -40,17 +31,15 @@ fn follow_piece(
     kept: &mut [u8; MOST_KEPT],
     table: &[u16; 256],
     cid: u8,
-    trunk: Trunk,
+    trunk: &mut Trunk,
     out: &mut [u8],
 ) -> Stands
     requires within { Within piece (length input.now) }
     requires most_followed_in_bounds { most_followed ≤ length out.old }
     ensures { piece.from < piece.to → piece.from < result.at }
 {
-    let from = piece.from;
-    let to = piece.to;
     let told = following::stream::follow_piece(
-        &input[from..to],
+        &input[piece.from..piece.to],
         begun,
         kept,
         table,
@@ -58,12 +47,10 @@ fn follow_piece(
         trunk,
         out,
     );
-    let after = told.trunk;
     Stands {
-        at: from + told.taken,
+        at: piece.from + told.taken,
         have: told.have,
         number: told.number,
-        trunk: after,
         well: streaming::output::print(rt, b"follow", out, told.used),
     }
 }
@@ -97,17 +84,15 @@ fn follow_all(
 {
     let mut left = first;
     let mut begun = Begun { have: 0, number: 0 };
-    let mut trunk = trunk::fresh();
-    // An end that no run reaches.
-    let mut turns = u64::MAX;
-    while 0 < turns {
-        turns -= 1;
+    let mut trunk = Trunk::fresh();
+    // To an end that no run reaches.
+    for _ in 0..u64::MAX {
         let piece = streaming::input::next(reader, input, left);
         if piece.from == piece.to {
             finish(rt, begun, kept, table, cid, trunk, out);
             return;
         }
-        let stands = follow_piece(rt, input, piece, begun, kept, table, cid, trunk, out);
+        let stands = follow_piece(rt, input, piece, begun, kept, table, cid, &mut trunk, out);
         if !stands.well {
             return;
         }
@@ -119,8 +104,6 @@ fn follow_all(
             have: stands.have,
             number: stands.number,
         };
-        let after = stands.trunk;
-        trunk = after;
     }
 }
 
@@ -129,12 +112,18 @@ fn follow(rt: &(impl Print + Eprint), reader: &mut impl Read, cid: u8) {
     let mut input = [0u8; 65536];
     let mut table = [0u16; 256];
     let start = streaming::input::begin(rt, reader, b"follow", &mut input, &mut table);
-    if start.taken {
+    if start.text.is_ok() {
         let mut kept = [0u8; MOST_KEPT];
         let mut out = [0u8; 65536];
-        let behind = start.behind;
         follow_all(
-            rt, reader, &mut input, behind, &mut kept, &table, cid, &mut out,
+            rt,
+            reader,
+            &mut input,
+            start.behind,
+            &mut kept,
+            &table,
+            cid,
+            &mut out,
         );
     }
 }
@@ -146,33 +135,23 @@ fn is_last(rt: &impl Env, place: usize) -> bool {
 
 // The one argument: a number as the provisioning text has it, at most 255. It is put before LFs, and its size must be that of the
 // number: it has more than four octets where it does not fit, and its size is more where it has an LF itself.
-fn read_argument(rt: &impl Env) -> Argument {
+fn read_argument(rt: &impl Env) -> Option<u8> {
     if !is_last(rt, 2) {
-        return Argument::NoCid;
+        return None;
     }
     let mut word = [10u8; 4];
-    let Ok(n) = rt.arg(1, &mut word) else {
-        return Argument::NoCid;
-    };
-    match value::number_of(&word) {
-        Value::Whole { value, size } => {
-            if size == n + 1 {
-                if value <= 255 {
-                    return Argument::Cid(value as u8);
-                }
-            }
-            Argument::NoCid
-        }
-        Value::Malformed => Argument::NoCid,
+    let n = rt.arg(1, &mut word).ok()?;
+    let given = value::number_of(&word)?;
+    if given.size != n + 1 {
+        return None;
     }
+    u8::try_from(given.value).ok()
 }
 
 fn main(rt: HostRuntime) {
     match read_argument(&rt) {
-        Argument::Cid(cid) => {
-            follow(&rt, &mut rt.stdin(), cid);
-        }
-        Argument::NoCid => {
+        Some(cid) => follow(&rt, &mut rt.stdin(), cid),
+        None => {
             let _ = eprintln!(rt;
                 "use: follow CID, where CID is the number of a sub-channel, 0 to 255, and the recording is standard input"
             );

@@ -11,8 +11,8 @@ use lib.Seq.{take_all}
 use Rattle.octets.specs.Text.{ascii}
 use Rattle.octets.proofs.Order.{lt-or-le}
 use Rattle.digits.specs.Layout.{off_window}
-use Rattle.trunk.specs.declared.Dialled.{Dialled}
-use Rattle.printing.specs.Field.{hex_field}
+use Rattle.dialled.specs.declared.Appended as dialled-appended
+use Rattle.printing.specs.Field.{hex_field, line}
 use Rattle.printing.specs.Room.{Appended}
 use Rattle.printing.proofs.Appending as appending
 use Rattle.following.specs.Following.{window_octets, period_lines, count_lines, dialled_lines}
@@ -39,7 +39,7 @@ shown (suc (suc (suc more))) a b d =
     (sym (ap (λ (l : List ℕ). hex_field (ascii "period=") d ++ l) (none more) ∙ append-nil (hex_field (ascii "period=") d))))
 
 pub dialled :
-    (d : Dialled) {out mid after with first second third : List ℕ} {at next last : ℕ}
+    (d : dialled-appended.Appended) {out mid after with first second third : List ℕ} {at next last : ℕ}
     → with ≡ window_octets d.fill
     → first ≡ window_octets (get_or d.periods 0 off_window)
     → second ≡ window_octets (get_or d.periods 1 off_window)
@@ -60,3 +60,12 @@ handed-on n page many =
     let same : min n 72 ≡ 72 = omega arith in
     ap (λ (k : ℕ). take k page) same ∙ take_all 72 page (omega arith) ∙ sym (take_all n page (omega arith)))
     (lt-or-le n 72)
+
+-- a line by itself
+pub alone :
+    (text : List ℕ) {out after : List ℕ} {at next : ℕ}
+    → at + 126 ≤ length out
+    → length text ≤ 125
+    → appending.Put (length text + 1) out at (line text) after next
+    → Appended out at (line text) 126 after next
+alone text room size p = appending.within (appending.then-line (appending.none _ _) text (omega arith) p) 126 (omega arith)

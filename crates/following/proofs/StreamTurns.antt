@@ -1,31 +1,32 @@
--- The loop of `follow_piece`, and a last line.
+-- The loop of `follow_piece`, over what is left of the piece, and a last line.
 use Prim.Native.Nat.{ℕ, ◌+◌, ◌-◌, ◌<◌, ◌≤◌, min}
 use mathlib.Core.Path.{◌≡◌, refl, sym, ap, ◌∙◌}
 use mathlib.Core.List.{List, []}
 use mathlib.Core.Bool.{Bool, true, false, cond}
 use native.Mathlib.Omega.{arith}
-use borrow.Author.Tests.{lt-ltb, le-ltb}
-use lib.Dec.{ltb}
-use lib.ListN.{length, take, drop}
+use borrow.Author.Tests.{eqb-true, eqb-false, lt-ltb, le-ltb}
+use lib.Dec.{ltb, eqb}
+use lib.ListN.{length, take, drop, length-drop}
+use lib.Seq.{drop-drop}
+use Rattle.std.specs.declared.result.Result.{Result}
+use Rattle.std.specs.declared.option.Option.TheVariants.{Some, None}
+use Rattle.refusal.specs.declared.Refusal.{Refusal}
 use Rattle.octets.specs.Room.{written}
 use Rattle.octets.specs.Text.{has_lf}
-use Rattle.hexline.specs.declared.Read.{Read}
 use Rattle.recording.specs.declared.stream.Begun.{Begun}
 use Rattle.recording.specs.declared.stream.Taken.{Taken}
 use Rattle.hexline.specs.Line.{octets, line_read, in_room, read_of, octets_of}
-use Rattle.recording.specs.Stream.{line_of, held_by, kept_behind}
-use Rattle.recording.specs.Stream.{taken as line_taken}
+use Rattle.recording.specs.Stream.{line_of, held_by, kept_behind, taken as line_taken}
 use Rattle.recording.specs.Walk.{Told, Walk, nothing, next_told}
 use Rattle.recording.proofs.Ends as ends
 use Rattle.octets.proofs.Writes as writes
 use Rattle.recording.proofs.Keeping as keeping
 use Rattle.recording.proofs.Walks as walks
 use Rattle.trunk.specs.declared.Trunk.{Trunk}
-use Rattle.following.specs.declared.following.Shown.{Shown}
 use Rattle.following.specs.declared.stream.Followed.{Followed}
 use Rattle.following.specs.Following.{line_following}
-use Rattle.following.specs.Private.{Stands, following_of}
-use Rattle.following.specs.Stream.{answer, last_followed}
+use Rattle.following.specs.Private.{Stands, following_of, taken_following}
+use Rattle.following.specs.Stream.{answer, piece_followed, last_followed}
 use Rattle.following.proofs.Turns as turns
 
 -- a line that is taken, by what is told of it
@@ -33,8 +34,9 @@ module _ (frame table : List ℕ) (cid : ℕ) (begun : Begun) (kept piece : List
   told-by :
       (whole : Bool)
       → 1600 ≤ length frame
-      → cond whole (following_of begun.number table cid (read_of (cond whole (in_room (length frame) (line_read (line_of begun.have kept piece))) (octets [])))
-      (written frame 0 (octets_of (cond whole (in_room (length frame) (line_read (line_of begun.have kept piece))) (octets [])))) t) (nothing t)
+      → taken_following begun.number table cid
+      (cond whole (Some (read_of (cond whole (in_room (length frame) (line_read (line_of begun.have kept piece))) (octets [])))) None)
+      (written frame 0 (octets_of (cond whole (in_room (length frame) (line_read (line_of begun.have kept piece))) (octets [])))) t
       ≡ cond whole (line_following table cid begun.number (line_of begun.have kept piece) t) (nothing t)
   told-by true room = turns.of-line begun.number table cid frame (line_of begun.have kept piece) t room refl refl
   told-by false room = refl
@@ -44,50 +46,88 @@ module _ (frame table : List ℕ) (cid : ℕ) (begun : Begun) (kept piece : List
       → line ≡ line_taken (length frame) begun kept piece
       → 1600 ≤ length frame
       → after ≡ written frame 0 (octets_of (held_by (length frame) begun.have kept piece))
-      → cond line.whole (following_of begun.number table cid line.read after t) (nothing t)
-      ≡ next_told (line_following table cid) begun kept t piece
+      → taken_following begun.number table cid line.line after t ≡ next_told (line_following table cid) begun kept t piece
   told_is line is room holds = rw (is, holds) (told-by (has_lf piece) room)
 
--- after `at` octets of the piece
-abbrev pub Going : List ℕ → ℕ → List ℕ → List ℕ → Walk Trunk → List ℕ → List ℕ → Begun → Trunk → ℕ → ℕ → Type 0
-Going table cid out₀ piece whole kept out begun t used at =
-    walks.Going (line_following table cid) 26176 out₀ piece whole kept out begun t used at
+-- what the code promises of a walk
+abbrev pub Promised : List ℕ → Walk Trunk → Followed → List ℕ → Trunk → List ℕ → Type 0
+Promised out₀ whole r kept now out =
+    (r ≡ answer whole) × ((kept ≡ whole.kept) × ((now ≡ whole.state) × (out ≡ written out₀ 0 whole.text)))
 
--- one line more, from what `take_line` and `put_taken` answer
-pub turn :
-    (table : List ℕ) (cid : ℕ) {out₀ piece : List ℕ} {whole : Walk Trunk} {kept out : List ℕ} {begun : Begun} {t : Trunk} {used at : ℕ}
-    → (going : Going table cid out₀ piece whole kept out begun t used at)
-    → (there : at < length piece)
-    → (frame : List ℕ) (line : Taken) {now frame' after : List ℕ} {r : Shown}
-    → (is : line ≡ line_taken (length frame) begun kept (take (length piece - at) (drop at piece)))
-    → 1600 ≤ length frame
-    → 26176 ≤ length out - used
-    → now ≡ kept_behind begun.have kept (take (length piece - at) (drop at piece))
-    → frame' ≡ written frame 0 (octets_of (held_by (length frame) begun.have kept (take (length piece - at) (drop at piece))))
-    → Stands out used (cond line.whole (following_of begun.number table cid line.read frame' t) (nothing t)) 26176 after r
-    → Going table cid out₀ piece whole now after line.next r.trunk r.next (at + line.size)
-turn table cid {out₀} {piece} {whole} {kept} {out} {begun} {t} {used} {at} going there frame line is large fits keeps holds put =
-    let tells = walks.tells (line_following table cid) 26176 going there frame line is in
-    let told = told_is frame table cid begun kept (drop at piece) t line tells large (rw (ends.rest-is piece at) at holds) in
-    let stands = turns.stands-as put told in
-    walks.turn (line_following table cid) 26176 going there frame line is fits keeps refl stands.leaves stands.text.ends stands.text.holds
-    stands.text.size
+-- what is left of the piece, and how the walk stands
+pub record Going (table : List ℕ) (cid : ℕ) (out₀ piece : List ℕ) (whole : Walk Trunk) (kept out : List ℕ) (begun : Begun) (used : ℕ) (now : Trunk) (rest : List ℕ) : Type 0 where
+  pub at : ℕ
+  pub left : rest ≡ drop at piece
+  pub stands : walks.Going (line_following table cid) 26176 out₀ piece whole kept out begun now used at
 
--- what the code promises, from what it promises of any walk
-abbrev pub Promised : List ℕ → Walk Trunk → Followed → List ℕ → List ℕ → Type 0
-Promised out₀ whole r kept out = (r ≡ answer whole) × ((kept ≡ whole.kept) × (out ≡ written out₀ 0 whole.text))
+pub begins :
+    (table : List ℕ) (cid : ℕ) (out piece kept : List ℕ) (begun : Begun) (t : Trunk)
+    → Going table cid out piece (piece_followed (length out) table cid begun kept t piece) kept out begun 0 t piece
+begins table cid out piece kept begun t =
+    record { at = 0; left = refl; stands = walks.begins (line_following table cid) 26176 out piece kept begun t }
 
-pub promised :
-    {out₀ kept out : List ℕ} {whole : Walk Trunk} {taken used : ℕ} {begun : Begun} {t : Trunk}
-    → walks.Promised out₀ whole taken used begun t kept out
-    → Promised out₀ whole (record { taken = taken; used = used; have = begun.have; number = begun.number; trunk = t }) kept out
-promised {out₀} {kept} {out} {whole} {taken} {used} {begun} {t} p =
-    let takes : taken ≡ whole.taken = p.takes in
-    let prints : used ≡ length whole.text = p.prints in
-    let h : begun.have ≡ whole.next.have = ap (λ (b : Begun). b.have) p.next in
-    let n : begun.number ≡ whole.next.number = ap (λ (b : Begun). b.number) p.next in
-    let leaves : t ≡ whole.state = p.leaves in
-    (cc, (p.keeps, p.holds))
+module _ {table : List ℕ} {cid : ℕ} {out₀ piece : List ℕ} {whole : Walk Trunk} {kept out : List ℕ} {begun : Begun} {used : ℕ} {now : Trunk} {rest : List ℕ}
+    (going : Going table cid out₀ piece whole kept out begun used now rest) where
+  size : length rest ≡ length piece - going.at
+  size = ap length going.left ∙ length-drop going.at piece
+
+  abbrev pub Ends : Type 0
+  Ends =
+      Promised out₀ whole
+      (record { taken = length piece - length rest; used = used; have = begun.have; number = begun.number })
+      kept now out
+
+  promised : walks.Promised out₀ whole going.at used begun now kept out → Ends
+  promised p =
+      let takes : length piece - length rest ≡ whole.taken = omega (arith, p.takes, size, going.stands.within) in
+      let prints : used ≡ length whole.text = p.prints in
+      let h : begun.have ≡ whole.next.have = ap (λ (b : Begun). b.have) p.next in
+      let n : begun.number ≡ whole.next.number = ap (λ (b : Begun). b.number) p.next in
+      (cc, (p.keeps, (p.leaves, p.holds)))
+
+  pub all : eqb (length rest) 0 ≡ true → Ends
+  all none = let nothing-left = eqb-true (length rest) 0 none in promised (walks.all (line_following table cid) 26176 going.stands (omega (arith, size)))
+
+  module _ (more : eqb (length rest) 0 ≡ false) where
+    there : going.at < length piece
+    there = let some = eqb-false (length rest) 0 more in omega (arith, size)
+
+    pub short : length out - used < 26176 → Ends
+    short h = promised (walks.short (line_following table cid) 26176 going.stands there h)
+
+    -- one line more, from what `take_line` and `put_taken` answer
+    module _ (frame : List ℕ) (line : Taken) (is : line ≡ line_taken (length frame) begun kept rest) where
+      as-part : rest ≡ take (length piece - going.at) (drop going.at piece)
+      as-part = going.left ∙ sym (ends.rest-is piece going.at)
+
+      is-there : line ≡ line_taken (length frame) begun kept (take (length piece - going.at) (drop going.at piece))
+      is-there = rw (← as-part) is
+
+      pub part : line.size ≤ length rest
+      part = omega (arith, walks.within (line_following table cid) 26176 going.stands there frame line is-there, size)
+
+      pub shorter : length (take (length rest - line.size) (drop line.size rest)) < length rest
+      shorter =
+          let some = walks.some-taken (line_following table cid) 26176 going.stands there frame line is-there in
+          rw (ends.rest-is rest line.size) (omega (arith, part, length-drop line.size rest))
+
+      pub turn :
+          {behind frame' after : List ℕ} {next : ℕ} {left : Trunk}
+          → 1600 ≤ length frame
+          → 26176 ≤ length out - used
+          → behind ≡ kept_behind begun.have kept rest
+          → frame' ≡ written frame 0 (octets_of (held_by (length frame) begun.have kept rest))
+          → Stands out used (taken_following begun.number table cid line.line frame' now) 26176 after next left
+          → Going table cid out₀ piece whole behind after line.next next left (take (length rest - line.size) (drop line.size rest))
+      turn large room keeps holds put =
+          let stands = turns.stands-as put (rw going.left at (told_is frame table cid begun kept rest now line is large holds)) in
+          record {
+            at = going.at + line.size;
+            left = ends.rest-is rest line.size ∙ rw going.left (drop-drop line.size going.at piece);
+            stands =
+                walks.turn (line_following table cid) 26176 going.stands there frame line is-there room (rw (← as-part) keeps) refl stands.leaves
+                stands.text.ends stands.text.holds stands.text.size;
+          }
 
 -- the last line, from what `put_read` answers
 module _ (table : List ℕ) (cid : ℕ) (begun : Begun) (kept : List ℕ) (t : Trunk) (out : List ℕ) where
@@ -118,14 +158,14 @@ module _ (table : List ℕ) (cid : ℕ) (begun : Begun) (kept : List ℕ) (t : T
     no_room short = as-text [] (rw (lt-ltb (length out) 26176 short) at (sym is_some)) refl (sym (writes.written_none out 0))
 
     pub last :
-        {end : ℕ} {read : Read} {frame' after : List ℕ} {r : Shown} (frame : List ℕ)
+        {end : ℕ} {read : Result ℕ Refusal} {frame' after : List ℕ} {next : ℕ} {left : Trunk} (frame : List ℕ)
         → 26176 ≤ length out
         → end ≡ min begun.have (length kept)
         → 1600 ≤ length frame
         → read ≡ read_of (in_room (length frame) (line_read (take end kept)))
         → frame' ≡ written frame 0 (octets_of (in_room (length frame) (line_read (take end kept))))
-        → Stands out 0 (following_of begun.number table cid read frame' t) 26176 after r
-        → LastPromised r.next after
+        → Stands out 0 (following_of begun.number table cid read frame' t) 26176 after next left
+        → LastPromised next after
     last {end} frame room cut large says holds put =
         let same : take end kept ≡ take begun.have kept = ap (λ (k : ℕ). take k kept) cut ∙ keeping.take-least begun.have kept in
         let told = turns.of-line begun.number table cid frame (take end kept) t large says holds

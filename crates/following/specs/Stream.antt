@@ -17,7 +17,6 @@ answer w =
       used = length w.text;
       have = w.next.have;
       number = w.next.number;
-      trunk = w.state;
     }
 
 -- what is printed at the end of the input

@@ -5,11 +5,10 @@ ghost use Rattle.faxing.specs.declared.Did.TheVariants.{Began};
 ghost use Rattle.following.specs.Following.{did_lines, page_line, faxed_lines};
 
 use crate::heard::bit;
-use faxing::Did;
+use faxing::{Did, Handed};
 use printing::field::put_field;
 use printing::hex::put_hex_field;
 use printing::line::put_line;
-use trunk::Faxed;
 
 fn put_began(
     out: &mut [u8],
@@ -61,13 +60,11 @@ fn put_page(out: &mut [u8], at: usize, count: u8, page: &[u8]) -> usize
     put_hex_field(out, at, b"octets=", &page[..end])
 }
 
-pub(crate) fn put_faxed(out: &mut [u8], at: usize, faxed: Faxed) -> usize
+pub(crate) fn put_faxed(out: &mut [u8], at: usize, handed: Handed) -> usize
     requires { at + 303 ≤ length out.old }
-    ensures { Appended out.old at (faxed_lines faxed) 303 out.new result }
+    ensures { Appended out.old at (faxed_lines handed) 303 out.new result }
 {
-    let page = faxed.octets;
-    let did = faxed.did;
-    let past_gap = put_field(out, at, b"gap=", bit(faxed.gap) as u64);
-    let past_octets = put_page(out, past_gap, faxed.count, &page);
-    put_did(out, past_octets, did)
+    let past_gap = put_field(out, at, b"gap=", bit(handed.gap) as u64);
+    let past_octets = put_page(out, past_gap, handed.count, &handed.octets);
+    put_did(out, past_octets, handed.did)
 }

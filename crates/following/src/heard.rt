@@ -1,18 +1,19 @@
 // The lines of a payload that the trunk has taken (docs/FOLLOW.md).
 ghost use Rattle.std.specs.Prelude.{◌≡◌, [], ◌∷◌, ◌+◌, ◌≤◌, length, take};
 ghost use Rattle.printing.specs.Room.{Appended};
-ghost use Rattle.following.specs.Following.{bit, window_octets, tens, period_lines, count_lines, dialled_lines, seized_lines, heard_lines};
+ghost use Rattle.following.specs.Following.{bit, window_octets, tens, period_lines, count_lines, dialled_lines, seized_lines, answer_lines};
 ghost use Rattle.following.specs.Private.{period_line};
 
 use digits::layout::Window;
 use printing::field::put_field;
 use printing::hex::put_hex_field;
-use trunk::{Dialled, Heard, Seized, Told};
+use refusal::Refusal;
+use trunk::Heard;
 
 pub(crate) fn bit(b: bool) -> u8
     ensures { result ≡ bit b }
 {
-    if b { 1 } else { 0 }
+    u8::from(b)
 }
 
 fn window_octets(window: Window) -> [u8; 3]
@@ -62,18 +63,16 @@ fn put_periods(
     put_period(out, past_second, 2 < carried, third)
 }
 
-fn put_dialled(out: &mut [u8], at: usize, dialled: Dialled) -> usize
+fn put_dialled(out: &mut [u8], at: usize, got: dialled::Appended) -> usize
     requires { at + 153 ≤ length out.old }
-    ensures { Appended out.old at (dialled_lines dialled) 153 out.new result }
+    ensures { Appended out.old at (dialled_lines got) 153 out.new result }
 {
-    let fill = dialled.fill;
-    let periods = dialled.periods;
-    let with = window_octets(fill);
-    let first = window_octets(periods[0]);
-    let second = window_octets(periods[1]);
-    let third = window_octets(periods[2]);
-    let past_counts = put_counts(out, at, dialled.fills, &with, dialled.carried);
-    put_periods(out, past_counts, dialled.carried, &first, &second, &third)
+    let with = window_octets(got.fill);
+    let first = window_octets(got.periods[0]);
+    let second = window_octets(got.periods[1]);
+    let third = window_octets(got.periods[2]);
+    let past_counts = put_counts(out, at, got.fills, &with, got.carried);
+    put_periods(out, past_counts, got.carried, &first, &second, &third)
 }
 
 // The carried ones of three periods of ten samples.
@@ -92,42 +91,30 @@ fn put_tens(out: &mut [u8], at: usize, carried: u8, samples: &[u8]) -> usize
     )
 }
 
-fn put_seized(out: &mut [u8], at: usize, seized: Seized, receiver: seized::Receiver) -> usize
+fn put_seized(out: &mut [u8], at: usize, got: seized::Appended, receiver: seized::Receiver) -> usize
     requires { at + 207 ≤ length out.old }
-    ensures { Appended out.old at (seized_lines seized receiver) 207 out.new result }
+    ensures { Appended out.old at (seized_lines got receiver) 207 out.new result }
 {
-    let periods = seized.periods;
-    let with = [seized.fill];
-    let past_counts = put_counts(out, at, seized.fills, &with, seized.carried);
-    let past_periods = put_tens(out, past_counts, seized.carried, &periods);
+    let past_counts = put_counts(out, at, got.fills, &[got.fill], got.carried);
+    let past_periods = put_tens(out, past_counts, got.carried, &got.periods);
     let past_value = put_field(out, past_periods, b"value=", receiver.value as u64);
     put_field(out, past_value, b"alarm=", bit(receiver.alarm) as u64)
 }
 
-// What is printed of a payload behind `answer=`.
-pub(crate) fn put_heard(out: &mut [u8], at: usize, told: Told) -> usize
+// What is printed of a payload behind `answer=`, with the signalling receiver after it.
+pub(crate) fn put_answer(
+    out: &mut [u8],
+    at: usize,
+    answer: Result<Heard, Refusal>,
+    receiver: seized::Receiver,
+) -> usize
     requires { at + 303 ≤ length out.old }
-    ensures { Appended out.old at (heard_lines told.heard told) 303 out.new result }
+    ensures { Appended out.old at (answer_lines answer receiver) 303 out.new result }
 {
-    let heard = told.heard;
-    match heard {
-        Heard::HeardDigits => {
-            let dialled = told.dialled;
-            put_dialled(out, at, dialled)
-        }
-        Heard::HeardSignalling => {
-            let seized = told.seized;
-            let after = told.trunk;
-            let receiver = after.signalling;
-            put_seized(out, at, seized, receiver)
-        }
-        Heard::HeardFax => {
-            let faxed = told.faxed;
-            crate::faxed::put_faxed(out, at, faxed)
-        }
-        Heard::HeardNothing => at,
-        Heard::HeardVoice => at,
-        Heard::HeardSilence => at,
-        Heard::HeardData => at,
+    match answer {
+        Ok(Heard::HeardDigits(got)) => put_dialled(out, at, got),
+        Ok(Heard::HeardSignalling(got)) => put_seized(out, at, got, receiver),
+        Ok(Heard::HeardFax(handed)) => crate::faxed::put_faxed(out, at, handed),
+        Ok(Heard::HeardVoice | Heard::HeardSilence | Heard::HeardData) | Err(_) => at,
     }
 }

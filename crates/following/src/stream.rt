@@ -1,22 +1,21 @@
 // A recording followed piece by piece, in fixed memory (docs/FOLLOW.md).
-ghost use Rattle.std.specs.Prelude.{◌≡◌, cond, ◌+◌, ◌≤◌, length};
+ghost use Rattle.std.specs.Prelude.{◌≡◌, ◌+◌, ◌≤◌, length, IfSome, IfOk};
 ghost use Rattle.octets.specs.Room.{written};
-ghost use Rattle.recording.specs.Walk.{nothing};
-ghost use Rattle.following.specs.Private.{Stands, following_of};
+ghost use Rattle.following.specs.Private.{Stands, taken_following};
 ghost use Rattle.following.specs.Stream.{piece_followed, answer, last_followed};
 
-use crate::following::{MOST_FOLLOWED, Shown};
-use recording::stream::{Begun, MOST_KEPT, Taken};
+use crate::following::MOST_FOLLOWED;
+use recording::stream::{Begun, MOST_KEPT};
+use refusal::Refusal;
 use trunk::Trunk;
 
-// What following a piece does: the octets taken of it, the octets printed, how it stands then, and the trunk.
+// What following a piece does: the octets taken of it, the octets printed, and how it stands then.
 #[derive(Clone, Copy)]
 pub struct Followed {
     pub taken: usize,
     pub used: usize,
     pub have: usize,
     pub number: u64,
-    pub trunk: Trunk,
 }
 
 // A line that is taken from a piece, where it is whole, as the frame number n.
@@ -26,20 +25,19 @@ fn put_taken(
     n: u64,
     table: &[u16; 256],
     cid: u8,
-    line: Taken,
+    line: Option<Result<usize, Refusal>>,
     frame: &[u8],
-    trunk: Trunk,
-) -> Shown
+    trunk: &mut Trunk,
+) -> usize
     requires at_in_bounds { at + 26176 ≤ length out.old }
-    requires octets_in_bounds { line.read.octets ≤ length frame.now }
+    requires octets_in_bounds { IfSome line (λ read. IfOk read (λ size. size ≤ length frame.now)) }
     requires frame_len_bound { length frame.now ≤ 1600 }
-    ensures { Stands out.old at (cond line.whole (following_of n table.now cid line.read frame.now trunk) (nothing trunk)) 26176 out.new result }
+    ensures { Stands out.old at (taken_following n table.now cid line frame.now trunk.old) 26176 out.new result trunk.new }
 {
-    if line.whole {
-        let read = line.read;
-        return crate::following::put_read(out, at, n, table, cid, read, frame, trunk);
+    match line {
+        Some(read) => crate::following::put_read(out, at, n, table, cid, read, frame, trunk),
+        None => at,
     }
-    Shown { next: at, trunk }
 }
 
 // Follows the lines of a piece, to its end or to where the room for a line's text runs short. What it has of a line that goes on is
@@ -50,43 +48,38 @@ pub fn follow_piece(
     kept: &mut [u8; MOST_KEPT],
     table: &[u16; 256],
     cid: u8,
-    trunk: Trunk,
+    trunk: &mut Trunk,
     out: &mut [u8],
 ) -> Followed
-    ensures says { result ≡ answer (piece_followed (length out.old) table.now cid begun kept.old trunk piece.now) }
-    ensures keeps { kept.new ≡ (piece_followed (length out.old) table.now cid begun kept.old trunk piece.now).kept }
-    ensures holds { out.new ≡ written out.old 0 (piece_followed (length out.old) table.now cid begun kept.old trunk piece.now).text }
+    ensures says { result ≡ answer (piece_followed (length out.old) table.now cid begun kept.old trunk.old piece.now) }
+    ensures keeps { kept.new ≡ (piece_followed (length out.old) table.now cid begun kept.old trunk.old piece.now).kept }
+    ensures leaves { trunk.new ≡ (piece_followed (length out.old) table.now cid begun kept.old trunk.old piece.now).state }
+    ensures holds { out.new ≡ written out.old 0 (piece_followed (length out.old) table.now cid begun kept.old trunk.old piece.now).text }
 {
     let mut stands = begun;
-    let mut after = trunk;
-    let mut used: usize = 0;
-    let mut at: usize = 0;
+    let mut used = 0;
+    let mut rest = piece;
     let mut frame = [0u8; 1600];
-    while at < piece.len() {
-        if out.len() - used < MOST_FOLLOWED {
-            return Followed {
-                taken: at,
-                used,
-                have: stands.have,
-                number: stands.number,
-                trunk: after,
-            };
-        }
-        let line = recording::stream::take_line(&piece[at..], stands, kept, &mut frame);
-        let shown = put_taken(out, used, stands.number, table, cid, line, &frame, after);
-        used = shown.next;
-        let then = shown.trunk;
-        after = then;
-        at += line.size;
-        let next = line.next;
-        stands = next;
+    while !rest.is_empty() && MOST_FOLLOWED <= out.len() - used {
+        let taken = recording::stream::take_line(rest, stands, kept, &mut frame);
+        used = put_taken(
+            out,
+            used,
+            stands.number,
+            table,
+            cid,
+            taken.line,
+            &frame,
+            trunk,
+        );
+        rest = &rest[taken.size..];
+        stands = taken.next;
     }
     Followed {
-        taken: at,
+        taken: piece.len() - rest.len(),
         used,
         have: stands.have,
         number: stands.number,
-        trunk: after,
     }
 }
 
@@ -96,23 +89,18 @@ pub fn follow_last(
     kept: &[u8; MOST_KEPT],
     table: &[u16; 256],
     cid: u8,
-    trunk: Trunk,
+    mut trunk: Trunk,
     out: &mut [u8],
 ) -> usize
     ensures says { result ≡ length (last_followed (length out.old) table.now cid begun kept.now trunk) }
     ensures holds { out.new ≡ written out.old 0 (last_followed (length out.old) table.now cid begun kept.now trunk) }
 {
-    let have = begun.have;
-    if have == 0 {
-        return 0;
-    }
-    if out.len() < MOST_FOLLOWED {
+    if begun.have == 0 || out.len() < MOST_FOLLOWED {
         return 0;
     }
     let room: &[u8] = kept;
-    let end = octets::least(have, room.len());
+    let end = octets::least(begun.have, room.len());
     let mut frame = [0u8; 1600];
     let read = hexline::read_line(&room[..end], &mut frame);
-    let shown = crate::following::put_read(out, 0, begun.number, table, cid, read, &frame, trunk);
-    shown.next
+    crate::following::put_read(out, 0, begun.number, table, cid, read, &frame, &mut trunk)
 }

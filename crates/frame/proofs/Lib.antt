@@ -1,3 +1,4 @@
 pub mod OpeningTurns
 pub mod OpeningList
 pub mod Chain
+pub mod Numbered

@@ -6,12 +6,14 @@ use native.Mathlib.Omega.{arith}
 use lib.ListN.{length, replicate, set, length-append}
 use lib.Seq.{set_at, append_snoc}
 use Rattle.header.specs.declared.SubFrame.{SubFrame}
-use Rattle.header.specs.declared.Header.TheVariants.{Sub}
-use Rattle.frame.specs.declared.Opened.{Opened}
+use Rattle.std.specs.declared.result.Result.TheVariants.{Ok, Err}
+use Rattle.std.specs.declared.option.Option.TheVariants.{Some}
+use Rattle.frame.specs.declared.Checked.{Checked}
+use Rattle.frame.specs.declared.Refused.{Refused}
 use Rattle.header.specs.Header.{header_at, unused, sub_at, end_of}
-use Rattle.frame.specs.Opening.{most_sub_frames, opening, answer}
+use Rattle.frame.specs.Opening.{most_sub_frames, opening, checked, answer}
 use Rattle.header.proofs.HeaderInverse.{sub-at-tells}
-use Rattle.frame.proofs.OpeningTurns.{Ahead, opens-ahead, opens-few}
+use Rattle.frame.proofs.OpeningTurns.{sound-tells, refused-tells, Ahead, opens-ahead, opens-few}
 
 -- After i turns the places hold i sub-frames and are unused beyond them, and the others begin at the present place.
 pub record Listed (s : List ℕ) (subs : List SubFrame) (at i : ℕ) : Type 0 where
@@ -26,9 +28,9 @@ pub begins : (s : List ℕ) → Listed s (replicate most_sub_frames unused) 0 0
 begins s = record { found = []; rest = (opening s).subs; many = refl; whole = refl; stands = refl; next = opens-ahead s }
 
 -- the header of the next, where there is one
-told-next : (s : List ℕ) (at : ℕ) (rest : List SubFrame) → 0 < length rest → Ahead s at rest → header_at s at ≡ Sub (sub_at s at)
+told-next : (s : List ℕ) (at : ℕ) (rest : List SubFrame) → 0 < length rest → Ahead s at rest → header_at s at ≡ Ok (Some (sub_at s at))
 told-next s at [] some next = absurd (omega arith)
-told-next s at (sub ∷ rest) some next = next.0 ∙ ap Sub (sym (sub-at-tells s at sub next.0))
+told-next s at (sub ∷ rest) some next = next.0 ∙ ap (λ (x : SubFrame). Ok (Some x)) (sym (sub-at-tells s at sub next.0))
 
 -- the rest behind it
 pass-next :
@@ -53,7 +55,7 @@ module _ {s : List ℕ} {subs : List SubFrame} {at i : ℕ} (listed : Listed s s
     pub room : i < most_sub_frames
     room = omega (arith, opens-few s)
 
-    pub told : header_at s at ≡ Sub (sub_at s at)
+    pub told : header_at s at ≡ Ok (Some (sub_at s at))
     told = told-next s at listed.rest some listed.next
 
     pub turn : (sub : SubFrame) → sub ≡ sub_at s at → Listed s (set subs i sub) (end_of sub) (i + 1)
@@ -72,14 +74,13 @@ module _ {s : List ℕ} {subs : List SubFrame} {at i : ℕ} (listed : Listed s s
           next = p.1.1;
         }
 
+  -- the answer, once each of the sub-frames that were checked stands in its place
   pub done :
-      length (opening s).subs ≤ i
-      → (number place count : ℕ)
-      → number ≡ (opening s).number
-      → place ≡ (opening s).at
-      → count ≡ length (opening s).subs
-      → ◌≡◌ {A = Opened} (record { number = number; at = place; count = count; subs = subs }) (answer (opening s))
-  done most number place count p q r =
+      (found : Checked) → checked (opening s) ≡ Ok found → found.count ≤ i → Ok (record { at = found.at; count = found.count; subs = subs }) ≡ answer (opening s)
+  done found e most =
+      let tells = sound-tells (opening s) _ e in
+      let at_is : found.at ≡ (opening s).at = ap (λ (c : Checked). c.at) tells.1 in
+      let count_is : found.count ≡ length (opening s).subs = ap (λ (c : Checked). c.count) tells.1 in
       let none : listed.rest ≡ [] = nothing listed.rest (omega (arith, lengths)) in
       let all : (opening s).subs ≡ listed.found = listed.whole ∙ rw none (append-nil listed.found) in
       let end : i ≡ length (opening s).subs = omega (arith, lengths) in
@@ -87,8 +88,14 @@ module _ {s : List ℕ} {subs : List SubFrame} {at i : ℕ} (listed : Listed s s
       listed.stands ∙ ap (λ (n : ℕ). listed.found ++ replicate (most_sub_frames - n) unused) end
       ∙ ap (λ (l : List SubFrame). l ++ replicate (most_sub_frames - length (opening s).subs) unused) (sym all)
       in
-      cc
+      rw (tells.0, at_is, count_is, places)
     where
       nothing : (l : List SubFrame) → length l ≡ 0 → l ≡ []
       nothing [] e = refl
       nothing (x ∷ l) e = absurd (omega arith)
+
+-- and that of a refused frame
+pub refused : (s : List ℕ) (r : Refused) → checked (opening s) ≡ Err r → Err r ≡ answer (opening s)
+refused s r e =
+    let tells = refused-tells (opening s) _ e in
+    rw (tells.0, tells.1.0, tells.1.1)

@@ -4,34 +4,54 @@ use mathlib.Core.Path.{◌≡◌, refl, sym, ap, subst, ◌∙◌}
 use mathlib.Core.List.{List, [], ◌∷◌, ◌++◌, append-nil}
 use mathlib.Core.Bool.{Bool, true, false, cond}
 use mathlib.Core.Logic.{⊎_elim}
-use native.Mathlib.Nat.{add-zero}
 use native.Mathlib.Omega.{arith}
 use borrow.Author.Tests.{lt-ltb, le-ltb, le-leb, lt-leb, eq-eqb, ne_eqb}
 use lib.ListN.{length, length-append}
 use lib.Seq.{append_snoc}
 use Rattle.octets.proofs.Order.{lt-or-le, eq-or-ne}
 use Rattle.octets.proofs.Texts.{true-not-false}
-use Rattle.refusal.specs.Numbers.{sound, field_empty, field_too_long, too_many_sub_frames}
-use Rattle.header.specs.declared.SubFrame.{SubFrame}
-use Rattle.header.specs.declared.Header.{Header}
-use Rattle.header.specs.declared.Header.TheVariants.{Sub, Bad, Past}
+use Rattle.std.specs.Option.{option_map_or}
+use Rattle.std.specs.Result.{MatchResult, IsErrAnd}
+use Rattle.std.specs.declared.result.Result.{Result}
+use Rattle.std.proofs.lemmas.Result.{err_from_is_err_and}
 use Rattle.frame.specs.declared.Checked.{Checked}
+use Rattle.header.specs.declared.SubFrame.{SubFrame}
+use Rattle.std.specs.declared.result.Result.TheVariants.{Ok, Err}
+use Rattle.std.specs.declared.option.Option.{Option}
+use Rattle.std.specs.declared.option.Option.TheVariants.{Some, None}
+use Rattle.refusal.specs.declared.Refusal.{Refusal}
+use Rattle.frame.specs.declared.Refused.{Refused}
 use Rattle.header.specs.Header.{header_at, end_of}
-use Rattle.frame.specs.Opening.{most_octets, most_sub_frames, field_fits, Opening, stopped, before, end_of_header, onwards, scan, scanned, opening, checked}
+use Rattle.frame.specs.Opening.{most_octets, most_sub_frames, field_fits, Opening, stopped, before, end_of_header, onwards, scan, scanned, all_or_none, opening, unless_refused, checked}
+use Rattle.refusal.specs.declared.Refusal.TheVariants.{FieldEmpty, FieldTooLong, TooManySubFrames}
 
-empty-not : field_empty ≡ sound → ⊥
-empty-not e = omega arith
+-- what an answer says of the opening
+module _ {A : Type 0} (o : Opening) (a : A) where
+  abbrev with-refusal : Option Refusal → Opening
+  with-refusal refused = record { refused = refused; at = o.at; subs = o.subs }
 
-long-not : field_too_long ≡ sound → ⊥
-long-not e = omega arith
+  pub sound-tells : {b : A} → unless_refused o a ≡ Ok b → (o.refused ≡ None) × (b ≡ a)
+  sound-tells {b = b} e = go o.refused e
+    where
+      go : (r : Option Refusal) → unless_refused (with-refusal r) a ≡ Ok b → (r ≡ None) × (b ≡ a)
+      go None h = (refl, cc)
+      go (Some refusal) h = cc
+
+  pub refused-tells : {r : Refused} → unless_refused o a ≡ Err r → (o.refused ≡ Some r.refusal) × ((r.at ≡ o.at) × (r.count ≡ length o.subs))
+  refused-tells {r = r} e = go o.refused e
+    where
+      go : (x : Option Refusal) → unless_refused (with-refusal x) a ≡ Err r → (x ≡ Some r.refusal) × ((r.at ≡ o.at) × (r.count ≡ length o.subs))
+      go None h = cc
+      go (Some refusal) h = let is : record { refusal = refusal; at = o.at; count = length o.subs } ≡ r = cc in
+          (ap (λ (x : Refused). Some x.refusal) is, (sym (ap (λ (x : Refused). x.at) is), sym (ap (λ (x : Refused). x.count) is)))
 
 module _ (s : List ℕ) where
-  pub empty : length s ≡ 0 → scanned s ≡ stopped field_empty 0
+  pub empty : length s ≡ 0 → scanned s ≡ stopped (Some FieldEmpty) 0
   unfolding scanned
   empty h = simp (eq-eqb (length s) 0 h)
 
   module _ (some : length s ≡ 0 → ⊥) where
-    pub long : most_octets < length s → scanned s ≡ stopped field_too_long 0
+    pub long : most_octets < length s → scanned s ≡ stopped (Some FieldTooLong) 0
     unfolding scanned
     long h = simp (ne_eqb (length s) 0 some, lt-ltb most_octets (length s) h)
 
@@ -56,31 +76,55 @@ module _ (s : List ℕ) where
         (λ h. absurd (true-not-false (sym (simp (lt-ltb 0 (length s) (omega (arith, some)), le-leb (length s) most_octets h)) ∙ unfit)))
         (lt-or-le most_octets (length s))
 
-    pub unfit-number : (scanned s).number ≡ sound → ⊥
-    unfit-number =
-        ⊎_elim (λ none z. empty-not (sym (ap (λ (o : Opening). o.number) (empty none)) ∙ z))
-        (λ some z. long-not (sym (ap (λ (o : Opening). o.number) (long some (unfit-long some))) ∙ z))
-        (eq-or-ne (length s) 0)
+    pub unfit-refused : (scanned s).refused ≡ None → ⊥
+    unfit-refused z = ⊎_elim (λ none. cc (empty none, z)) (λ some. cc (long some (unfit-long some), z)) (eq-or-ne (length s) 0)
 
   -- all of a sound scan is handed out, and no sub-frame of any other
-  pub sound-is : (scanned s).number ≡ sound → opening s ≡ scanned s
+  pub sound-is : (scanned s).refused ≡ None → opening s ≡ scanned s
   unfolding opening
-  sound-is h = simp (eq-eqb (scanned s).number sound h)
+  sound-is e = rw e
 
-  pub refused-is : ((scanned s).number ≡ sound → ⊥) → opening s ≡ stopped (scanned s).number (scanned s).at
+  pub refused-is : (refusal : Refusal) → (scanned s).refused ≡ Some refusal → opening s ≡ stopped (Some refusal) (scanned s).at
   unfolding opening
-  refused-is h = simp (ne_eqb (scanned s).number sound h)
+  refused-is refusal e = rw e
 
-  pub refused-opens : (r : Checked) → r ≡ checked (scanned s) → (r.number ≡ sound → ⊥) → stopped r.number r.at ≡ opening s
-  refused-opens r e some = rw e (sym (refused-is (λ z. some (ap (λ (c : Checked). c.number) e ∙ z))))
+  pub same-refusal : (opening s).refused ≡ (scanned s).refused
+  unfolding opening
+  same-refusal = go (scanned s).refused refl
+    where
+      go : (r : Option Refusal) → (scanned s).refused ≡ r → (option_map_or (λ refusal. stopped (Some refusal) (scanned s).at) r (scanned s)).refused ≡ r
+      go None e = e
+      go (Some refusal) e = refl
 
-  pub number_is : (opening s).number ≡ (scanned s).number
-  number_is =
-      ⊎_elim (λ h. ap (λ (o : Opening). o.number) (sound-is h)) (λ h. ap (λ (o : Opening). o.number) (refused-is h))
-      (eq-or-ne (scanned s).number sound)
+  -- what `check` answers of a field that is empty or too long
+  pub empty-checked : length s ≡ 0 → Err (record { refusal = FieldEmpty; at = 0; count = 0 }) ≡ checked (opening s)
+  unfolding opening
+  empty-checked h = rw (empty h)
+
+  pub unfit-checked :
+      (length s ≡ 0 → ⊥) → field_fits (length s) ≡ false → Err (record { refusal = FieldTooLong; at = 0; count = 0 }) ≡ checked (opening s)
+  unfolding opening
+  unfit-checked some unfit = rw (long some (unfit-long unfit some))
+
+  -- and of any other, from what the scan told: of a refused frame no sub-frame is counted
+  module _ (fits : field_fits (length s) ≡ true) (found m : Result Checked Refused) (is : found ≡ checked (scan most_sub_frames s 0))
+      (told : MatchResult found (λ x. m ≡ Ok x) (λ e. IsErrAnd m (λ y. y ≡ record { refusal = e.refusal; at = e.at; count = 0 }))) where
+    abbrev o : Opening
+    o = scan most_sub_frames s 0
+
+    pub fit-checked : m ≡ checked (opening s)
+    unfolding opening
+    fit-checked = rw (fits-scans fits) (go o.refused (rw is at told))
+      where
+        go :
+            (r : Option Refusal)
+            → MatchResult (checked (record { refused = r; at = o.at; subs = o.subs })) (λ x. m ≡ Ok x) (λ e. IsErrAnd m (λ y. y ≡ record { refusal = e.refusal; at = e.at; count = 0 }))
+            → m ≡ checked (all_or_none (record { refused = r; at = o.at; subs = o.subs }))
+        go None h = h
+        go (Some refusal) h = let p = err_from_is_err_and m h in p.1 ∙ ap Err p.2
 
   -- what holds of every refusal and of the scan holds of the opening
-  module _ (P : Opening → Type 0) (refused : (number at : ℕ) → P (stopped number at)) (scan-holds : P (scan most_sub_frames s 0)) where
+  module _ (P : Opening → Type 0) (refused : (refusal : Refusal) (at : ℕ) → P (stopped (Some refusal) at)) (scan-holds : P (scan most_sub_frames s 0)) where
     scanned-holds : P (scanned s)
     scanned-holds =
         ⊎_elim (λ none. subst P (sym (empty none)) (refused _ _))
@@ -89,92 +133,80 @@ module _ (s : List ℕ) where
         (eq-or-ne (length s) 0)
 
     pub opening-holds : P (opening s)
-    opening-holds =
-        ⊎_elim (λ h. subst P (sym (sound-is h)) scanned-holds) (λ h. subst P (sym (refused-is h)) (refused _ _))
-        (eq-or-ne (scanned s).number sound)
+    unfolding opening
+    opening-holds = go (scanned s).refused
+      where
+        go : (r : Option Refusal) → P (option_map_or (λ refusal. stopped (Some refusal) (scanned s).at) r (scanned s))
+        go None = scanned-holds
+        go (Some refusal) = refused refusal _
 
 -- sub-frames that were found, before what is still to come
 abbrev behind : List SubFrame → Opening → Opening
-behind found rest = record { number = rest.number; at = rest.at; subs = found ++ rest.subs }
+behind found rest = record { refused = rest.refused; at = rest.at; subs = found ++ rest.subs }
 
--- When `begun` sub-frames have begun, `earlier` of them before the scan: the whole scan is what was found, before the scan from
--- the present place on.
-pub record Passed (s : List ℕ) (whole : Opening) (earlier at begun : ℕ) : Type 0 where
+-- When `count` sub-frames have begun, of which `room` may begin: the whole scan is what was found, before the scan from the present
+-- place on.
+pub record Passed (s : List ℕ) (room : ℕ) (whole : Opening) (at count : ℕ) : Type 0 where
   pub found : List SubFrame
-  pub many : earlier + length found ≡ begun
-  pub opens : whole ≡ behind found (scan (most_sub_frames - begun) s at)
+  pub many : length found ≡ count
+  pub opens : whole ≡ behind found (scan (room - count) s at)
 
-pub begins : (s : List ℕ) (at earlier : ℕ) → Passed s (scan (most_sub_frames - earlier) s at) earlier at earlier
-begins s at earlier = record { found = []; many = add-zero earlier; opens = refl }
+pub begins : (s : List ℕ) (room at : ℕ) → Passed s room (scan room s at) at 0
+begins s room at =
+    let none : room - 0 ≡ room = omega arith in
+    record { found = []; many = refl; opens = rw none }
 
--- the answer, from what was found and where the scan stopped
-closes :
-    (whole : Opening) (found : List SubFrame) (earlier begun number at : ℕ)
-    → earlier + length found ≡ begun
-    → whole ≡ behind found (stopped number at)
-    → ◌≡◌ {A = Checked} (record { number = number; at = at; count = begun - earlier }) (checked whole)
-closes whole found earlier begun number at many o =
-    let count : begun - earlier ≡ length found = omega arith in
-    rw (o, append-nil, count)
-
-module _ {s : List ℕ} {whole : Opening} {earlier at begun : ℕ} (passed : Passed s whole earlier at begun) where
-  pub full : most_sub_frames ≤ begun → ◌≡◌ {A = Checked} (record { number = too_many_sub_frames; at = at; count = begun - earlier }) (checked whole)
+module _ {s : List ℕ} {room : ℕ} {whole : Opening} {at count : ℕ} (passed : Passed s room whole at count) where
+  pub full : room ≡ count → Err (record { refusal = TooManySubFrames; at = at; count = room }) ≡ checked whole
   unfolding scan
-  full most =
-      let none : most_sub_frames - begun ≡ 0 = omega arith in
-      closes whole passed.found earlier begun too_many_sub_frames at passed.many (passed.opens ∙ rw none)
+  full all =
+      let none : room - count ≡ 0 = omega arith in
+      rw (passed.opens, none, append-nil, passed.many, all)
 
-  module _ (less : begun < most_sub_frames) where
-    one_more : (sub : SubFrame) → earlier + length (passed.found ++ sub ∷ []) ≡ begun + 1
+  module _ (less : count < room) where
+    one_more : (sub : SubFrame) → length (passed.found ++ sub ∷ []) ≡ count + 1
     one_more sub = omega (arith, passed.many, length-append passed.found (sub ∷ []))
 
-    opens-on : (h : Header) → header_at s at ≡ h → whole ≡ behind passed.found (onwards h at (scan (most_sub_frames - (begun + 1)) s (end_of_header h)))
+    opens-on : (h : Result (Option SubFrame) Refusal) → header_at s at ≡ h → whole ≡ behind passed.found (onwards h at (scan (room - (count + 1)) s (end_of_header h)))
     unfolding scan
     opens-on h e =
-        let one : most_sub_frames - begun ≡ suc (most_sub_frames - (begun + 1)) = omega arith in
+        let one : room - count ≡ suc (room - (count + 1)) = omega arith in
         passed.opens ∙ ap (behind passed.found) (rw (one, ← e))
 
-    pub turn : (sub : SubFrame) → header_at s at ≡ Sub sub → sub.last ≡ false → Passed s whole earlier (end_of sub) (begun + 1)
+    pub turn : (sub : SubFrame) → header_at s at ≡ Ok (Some sub) → sub.last ≡ false → Passed s room whole (end_of sub) (count + 1)
     turn sub e more =
-        record { found = passed.found ++ sub ∷ []; many = one_more sub; opens = opens-on (Sub sub) e ∙ rw (more, append_snoc) }
+        record { found = passed.found ++ sub ∷ []; many = one_more sub; opens = opens-on (Ok (Some sub)) e ∙ rw (more, append_snoc) }
 
-    pub final :
-        (sub : SubFrame)
-        → header_at s at ≡ Sub sub
-        → sub.last ≡ true
-        → ◌≡◌ {A = Checked} (record { number = sound; at = end_of sub; count = begun + 1 - earlier }) (checked whole)
+    pub final : (sub : SubFrame) → header_at s at ≡ Ok (Some sub) → sub.last ≡ true → Ok (record { at = end_of sub; count = count + 1 }) ≡ checked whole
     final sub e last =
-        closes whole (passed.found ++ sub ∷ []) earlier (begun + 1) sound (end_of sub) (one_more sub)
-        (opens-on (Sub sub) e ∙ rw (last, append-nil))
+        let o : whole ≡ behind (passed.found ++ sub ∷ []) (stopped None (end_of sub)) = opens-on (Ok (Some sub)) e ∙ rw (last, append-nil) in
+        rw (o, append-nil, one_more sub)
 
-    pub refused :
-        (number : ℕ)
-        → header_at s at ≡ Bad number
-        → ◌≡◌ {A = Checked} (record { number = number; at = at; count = begun - earlier }) (checked whole)
-    refused number e = closes whole passed.found earlier begun number at passed.many (opens-on (Bad number) e)
+    pub refused : (refusal : Refusal) → header_at s at ≡ Err refusal → Err (record { refusal = refusal; at = at; count = count }) ≡ checked whole
+    refused refusal e = rw (opens-on (Err refusal) e, append-nil, passed.many)
 
-    pub past : header_at s at ≡ Past → ◌≡◌ {A = Checked} (record { number = sound; at = at; count = begun - earlier }) (checked whole)
-    past e = closes whole passed.found earlier begun sound at passed.many (opens-on Past e)
+    pub past : header_at s at ≡ Ok None → Ok (record { at = at; count = count }) ≡ checked whole
+    past e = rw (opens-on (Ok None) e, append-nil, passed.many)
 
 -- From `at` on, headers tell these sub-frames, one behind the other.
 abbrev pub Ahead : List ℕ → ℕ → List SubFrame → Type 0
 Ahead s at [] = Unit
-Ahead s at (sub ∷ subs) = (header_at s at ≡ Sub sub) × Ahead s (end_of sub) subs
+Ahead s at (sub ∷ subs) = (header_at s at ≡ Ok (Some sub)) × Ahead s (end_of sub) subs
 
 module _ (s : List ℕ) where
   ahead-sub :
       (at : ℕ) (sub : SubFrame) (rest : Opening) (last : Bool)
-      → header_at s at ≡ Sub sub
+      → header_at s at ≡ Ok (Some sub)
       → Ahead s (end_of sub) rest.subs
-      → Ahead s at (before sub (cond last (stopped sound (end_of sub)) rest)).subs
+      → Ahead s at (before sub (cond last (stopped None (end_of sub)) rest)).subs
   ahead-sub at sub rest true e next = (e, tt)
   ahead-sub at sub rest false e next = (e, next)
 
   ahead-on :
-      (at : ℕ) (h : Header) (rest : Opening) → header_at s at ≡ h → Ahead s (end_of_header h) rest.subs → Ahead s at (onwards h at rest).subs
-  ahead-on at (Sub sub) rest e next = ahead-sub at sub rest sub.last e next
-  ahead-on at (Bad number) rest e next = tt
-  ahead-on at Past rest e next = tt
+      (at : ℕ) (h : Result (Option SubFrame) Refusal) (rest : Opening) → header_at s at ≡ h → Ahead s (end_of_header h) rest.subs → Ahead s at (onwards h at rest).subs
+  ahead-on at (Ok (Some sub)) rest e next = ahead-sub at sub rest sub.last e next
+  ahead-on at (Err refusal) rest e next = tt
+  ahead-on at (Ok None) rest e next = tt
 
   pub ahead : (room at : ℕ) → Ahead s at (scan room s at).subs
   unfolding scan
@@ -185,14 +217,14 @@ module _ (s : List ℕ) where
   few-sub :
       (room : ℕ) (sub : SubFrame) (rest : Opening) (last : Bool)
       → length rest.subs ≤ room
-      → length (before sub (cond last (stopped sound (end_of sub)) rest)).subs ≤ suc room
+      → length (before sub (cond last (stopped None (end_of sub)) rest)).subs ≤ suc room
   few-sub room sub rest true fits = omega arith
   few-sub room sub rest false fits = omega arith
 
-  few_on : (room at : ℕ) (h : Header) (rest : Opening) → length rest.subs ≤ room → length (onwards h at rest).subs ≤ suc room
-  few_on room at (Sub sub) rest fits = few-sub room sub rest sub.last fits
-  few_on room at (Bad number) rest fits = omega arith
-  few_on room at Past rest fits = omega arith
+  few_on : (room at : ℕ) (h : Result (Option SubFrame) Refusal) (rest : Opening) → length rest.subs ≤ room → length (onwards h at rest).subs ≤ suc room
+  few_on room at (Ok (Some sub)) rest fits = few-sub room sub rest sub.last fits
+  few_on room at (Err refusal) rest fits = omega arith
+  few_on room at (Ok None) rest fits = omega arith
 
   pub few : (room at : ℕ) → length (scan room s at).subs ≤ room
   unfolding scan
@@ -201,8 +233,8 @@ module _ (s : List ℕ) where
 
   -- the same of an opened frame
   pub opens-ahead : Ahead s 0 (opening s).subs
-  opens-ahead = opening-holds s (λ (o : Opening). Ahead s 0 o.subs) (λ number at. tt) (ahead most_sub_frames 0)
+  opens-ahead = opening-holds s (λ (o : Opening). Ahead s 0 o.subs) (λ refusal at. tt) (ahead most_sub_frames 0)
 
   pub opens-few : length (opening s).subs ≤ most_sub_frames
   opens-few =
-      opening-holds s (λ (o : Opening). length o.subs ≤ most_sub_frames) (λ number at. omega arith) (few most_sub_frames 0)
+      opening-holds s (λ (o : Opening). length o.subs ≤ most_sub_frames) (λ refusal at. omega arith) (few most_sub_frames 0)

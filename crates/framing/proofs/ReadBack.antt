@@ -7,7 +7,8 @@ use mathlib.Core.Logic.{◌⊎◌, ⊎_elim}
 use native.Mathlib.Omega.{arith}
 use lib.Dec.{eqb}
 use lib.ListN.{length, drop, length-drop}
-use Rattle.header.specs.declared.Header.TheVariants.{Sub}
+use Rattle.std.specs.declared.result.Result.TheVariants.{Ok}
+use Rattle.std.specs.declared.option.Option.TheVariants.{Some}
 use Rattle.header.specs.Header.{ei, li, low_bits, spare, payload_type, size, octet1, octet1a, octet1b, cid_of, told, header_at}
 use Rattle.joining.specs.Joining.{li_for, header_with}
 use Rattle.header.proofs.HeaderCases as cases
@@ -74,7 +75,7 @@ module _ (F : List ℕ) (at e cid ptype len : ℕ) (rest : List ℕ) (enough : E
 
   pub last-back :
       drop at F ≡ header_with e cid ptype true len ++ rest
-      → header_at F at ≡ Sub (record { cid = cid; ptype = ptype; start = at + (1 + e + 0); len = length rest; last = true })
+      → header_at F at ≡ Ok (Some (record { cid = cid; ptype = ptype; start = at + (1 + e + 0); len = length rest; last = true }))
   last-back stands =
       let free : 4 ≤ cid = enough.free in
       let four_bits : ptype ≤ 15 = enough.four_bits in
@@ -93,7 +94,7 @@ module _ (F : List ℕ) (at e cid ptype len : ℕ) (rest : List ℕ) (enough : E
   pub more-back :
       len < length rest
       → drop at F ≡ header_with e cid ptype false len ++ rest
-      → header_at F at ≡ Sub (record { cid = cid; ptype = ptype; start = at + (1 + e + 1); len = len; last = false })
+      → header_at F at ≡ Ok (Some (record { cid = cid; ptype = ptype; start = at + (1 + e + 1); len = len; last = false }))
   more-back less stands =
       let free : 4 ≤ cid = enough.free in
       let four_bits : ptype ≤ 15 = enough.four_bits in

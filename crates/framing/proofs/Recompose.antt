@@ -13,7 +13,8 @@ use lib.ListN.{length, get_or, take, drop, length-drop, take-append-drop}
 use lib.Seq.{drop-drop, get_or-drop}
 use Rattle.octets.proofs.Order.{eq-or-ne}
 use Rattle.header.specs.declared.SubFrame.{SubFrame}
-use Rattle.header.specs.declared.Header.TheVariants.{Sub}
+use Rattle.std.specs.declared.result.Result.TheVariants.{Ok}
+use Rattle.std.specs.declared.option.Option.TheVariants.{Some}
 use Rattle.header.specs.Header.{ei, li, spare, payload_type, size, octet1, octet1a, octet1b, cid_of, header_at, end_of}
 use Rattle.joining.specs.Joining.{ei_for, header_with}
 use Rattle.joining.proofs.HeaderWritten.{ei-out}
@@ -61,7 +62,7 @@ second-octet o a clear = omega arith
 bit-of : (n : ℕ) → n < 2 → (n ≡ 0) ⊎ (n ≡ 1)
 bit-of n less = ⊎_elim (λ z. inl z) (λ nz. inr (omega arith)) (eq-or-ne n 0)
 
-module _ (s : List ℕ) (octets : Octets s) (at : ℕ) (sub : SubFrame) (read : header_at s at ≡ Sub sub) where
+module _ (s : List ℕ) (octets : Octets s) (at : ℕ) (sub : SubFrame) (read : header_at s at ≡ Ok (Some sub)) where
   abbrev f : List ℕ
   f = drop at s
 

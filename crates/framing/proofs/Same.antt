@@ -9,9 +9,9 @@ use native.Mathlib.Omega.{arith}
 use lib.ListN.{length, take, drop, length-append}
 use lib.Seq.{drop-drop, drop_at, take_at}
 use Rattle.octets.proofs.Order.{eq-or-ne}
-use Rattle.refusal.specs.Numbers.{sound}
 use Rattle.header.specs.declared.SubFrame.{SubFrame}
-use Rattle.header.specs.declared.Header.TheVariants.{Sub}
+use Rattle.std.specs.declared.result.Result.TheVariants.{Ok}
+use Rattle.std.specs.declared.option.Option.TheVariants.{Some, None}
 use Rattle.header.specs.Header.{header_at, end_of}
 use Rattle.frame.specs.Opening.{most_sub_frames, Opening, scan, scanned, before, stopped}
 use Rattle.joining.specs.Joining.{Member, is_none, joined, ei_for, li_for, header_with, shortest_header, header_size}
@@ -48,8 +48,8 @@ module _ (F header payload rest : List ℕ) (at size : ℕ) (stands : drop at F 
 -- a scan that meets a header goes on behind it
 pub scan-on :
     (F : List ℕ) (room at : ℕ) (sub : SubFrame)
-    → header_at F at ≡ Sub sub
-    → scan (suc room) F at ≡ before sub (cond sub.last (stopped sound (end_of sub)) (scan room F (end_of sub)))
+    → header_at F at ≡ Ok (Some sub)
+    → scan (suc room) F at ≡ before sub (cond sub.last (stopped None (end_of sub)) (scan room F (end_of sub)))
 unfolding scan
 scan-on F room at sub e = rw e
 
@@ -66,7 +66,7 @@ same_from :
     → 1 ≤ length cs
     → length cs ≤ room
     → drop at F ≡ joined cs
-    → ((scan room F at).number ≡ sound) × (map (content_of F) (scan room F at).subs ≡ cs)
+    → ((scan room F at).refused ≡ None) × (map (content_of F) (scan room F at).subs ≡ cs)
 unfolding joined shortest_header
 same_from F [] room at each some most stands = absurd (not-suc-le-zero some)
 same_from F (c ∷ cs) zero at each some most stands = absurd (not-suc-le-zero most)
@@ -77,7 +77,7 @@ same_from F (c ∷ []) (suc room) at each some most stands =
     let read = last-back F at e c.cid c.ptype (length c.payload) c.payload (enough c.cid c.ptype each.0.free each.0.four_bits) (there ∙ ap (λ (l : List ℕ). header ++ l) (append-nil c.payload)) in
     let content = payload-there F header c.payload [] at (1 + e + 0) there (header-length c.cid c.ptype true (length c.payload)) in
     let on = scan-on F room at _ read in
-    (ap (λ (o : Opening). o.number) on, ap (λ (o : Opening). map (content_of F) o.subs) on ∙ rw content)
+    (ap (λ (o : Opening). o.refused) on, ap (λ (o : Opening). map (content_of F) o.subs) on ∙ rw content)
 same_from F (c ∷ d ∷ ds) (suc room) at each some most stands =
     let e : ℕ = ei_for c.cid c.ptype in
     let header : List ℕ = header_with e c.cid c.ptype false (length c.payload) in
@@ -89,7 +89,7 @@ same_from F (c ∷ d ∷ ds) (suc room) at each some most stands =
     let content = payload-there F header c.payload rest at (1 + e + 1) there size in
     let on = scan-on F room at _ read in
     let more = same_from F (d ∷ ds) room (at + (1 + e + 1) + length c.payload) each.1 (omega arith) (le_of_suc-le-suc most) (rest-there F header c.payload rest at (1 + e + 1) there size) in
-    (ap (λ (o : Opening). o.number) on ∙ more.0, ap (λ (o : Opening). map (content_of F) o.subs) on ∙ rw (content, more.1))
+    (ap (λ (o : Opening). o.refused) on ∙ more.0, ap (λ (o : Opening). map (content_of F) o.subs) on ∙ rw (content, more.1))
 
 -- the tests for 1 and 2 are passed
 scans : (cs : List Member) → Fits cs → scanned (joined cs) ≡ scan most_sub_frames (joined cs) 0
@@ -100,5 +100,5 @@ pub opens-to-the-same : OpensToTheSame
 opens-to-the-same cs fits =
     let whole = scans cs fits in
     let same = same_from (joined cs) cs most_sub_frames 0 fits.each fits.some fits.most refl in
-    let good : (scanned (joined cs)).number ≡ sound = ap (λ (o : Opening). o.number) whole ∙ same.0 in
+    let good : (scanned (joined cs)).refused ≡ None = ap (λ (o : Opening). o.refused) whole ∙ same.0 in
     rw (turns.sound-is (joined cs) good ∙ whole) same

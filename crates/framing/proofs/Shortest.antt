@@ -11,10 +11,10 @@ use lib.Dec.{T, eqb}
 use lib.ListN.{length, get_or, take, drop, length-append, length-drop, length-map, drop_of_length-le}
 use lib.Seq.{length-take-le}
 use Rattle.octets.proofs.Order.{lt-or-le, eq-or-ne}
-use Rattle.refusal.specs.Numbers.{sound}
 use Rattle.octets.specs.Octets.{Octets}
 use Rattle.header.specs.declared.SubFrame.{SubFrame}
-use Rattle.header.specs.declared.Header.TheVariants.{Sub}
+use Rattle.std.specs.declared.result.Result.TheVariants.{Ok}
+use Rattle.std.specs.declared.option.Option.TheVariants.{Some, None}
 use Rattle.header.specs.Header.{ei, octet1, header_at, end_of}
 use Rattle.frame.specs.Opening.{most_octets, most_sub_frames, Opening, scan, scanned, opening, before, stopped}
 use Rattle.joining.specs.Joining.{Member, is_none, joined, ei_for, li_for, header_with, shortest_header, header_size}
@@ -60,17 +60,17 @@ module _ (s : List ℕ) (octets : Octets s) where
   begins :
       (room at : ℕ)
       → at < length s
-      → (scan (suc room) s at).number ≡ sound
-      → (sub : SubFrame) × (header_at s at ≡ Sub sub)
+      → (scan (suc room) s at).refused ≡ None
+      → (sub : SubFrame) × (header_at s at ≡ Ok (Some sub))
   unfolding scan
   begins room at here good =
       let there = cases.there s at here in
       ⊎_elim
-      (λ r. let bad : (scan (suc room) s at).number ≡ r.number = rw (there ∙ r.is) in let some : 0 < r.number = r.some in absurd (omega arith))
+      (λ r. let bad : (scan (suc room) s at).refused ≡ Some r.0 = rw (there ∙ r.1) in cc (bad, good))
       (λ w. (w.0, there ∙ w.1))
       (inverse.decided at _ _ _ _)
 
-  module _ (at : ℕ) (sub : SubFrame) (read : header_at s at ≡ Sub sub) where
+  module _ (at : ℕ) (sub : SubFrame) (read : header_at s at ≡ Ok (Some sub)) where
     -- one octet more where EI is set without need
     wasted : ei (get_or s at 0) ≡ ei_for sub.cid sub.ptype + cond (eqb (ei_for sub.cid sub.ptype) 0) (ei (get_or s at 0)) 0
     wasted =
@@ -125,7 +125,7 @@ module _ (s : List ℕ) (octets : Octets s) where
           ∙ ap (λ (r : List ℕ). header (ei_for sub.cid sub.ptype) (is_none cs) (length payload) ++ (payload ++ r)) (same_rest (omega arith))
           ∙ sym (append_assoc (header (ei_for sub.cid sub.ptype) (is_none cs) (length payload)) payload (joined cs))
 
-  carriable : (at : ℕ) (sub : SubFrame) → header_at s at ≡ Sub sub → (last : Bool) → (last ≡ false → length (content_of s sub).payload ≤ 255) → Carriable (content_of s sub) last
+  carriable : (at : ℕ) (sub : SubFrame) → header_at s at ≡ Ok (Some sub) → (last : Bool) → (last ≡ false → length (content_of s sub).payload ≤ 255) → Carriable (content_of s sub) last
   carriable at sub read last short =
       record {
         free = made.cid-free s octets at sub read;
@@ -137,14 +137,14 @@ module _ (s : List ℕ) (octets : Octets s) where
   -- one more sub-frame in front of what is known of the rest
   step_from :
       (room at : ℕ) (sub : SubFrame)
-      → header_at s at ≡ Sub sub
-      → (scan (suc room) s at).number ≡ sound
-      → (end_of sub < length s → (scan room s (end_of sub)).number ≡ sound → From s room (end_of sub) (scan room s (end_of sub)).subs)
+      → header_at s at ≡ Ok (Some sub)
+      → (scan (suc room) s at).refused ≡ None
+      → (end_of sub < length s → (scan room s (end_of sub)).refused ≡ None → From s room (end_of sub) (scan room s (end_of sub)).subs)
       → (last : Bool)
       → sub.last ≡ last
       → From s (suc room) at (scan (suc room) s at).subs
   step_from room at sub read good rest true last =
-      let on : scan (suc room) s at ≡ before sub (stopped sound (end_of sub)) = same.scan-on s room at sub read ∙ rw last in
+      let on : scan (suc room) s at ≡ before sub (stopped None (end_of sub)) = same.scan-on s room at sub read ∙ rw last in
       let ends : end_of sub ≡ length s = made.last-ends s octets at sub read last in
       let over : length s - end_of sub ≡ 0 = omega arith in
       subst (λ (o : Opening). From s (suc room) at o.subs) (sym on)
@@ -157,7 +157,7 @@ module _ (s : List ℕ) (octets : Octets s) where
       })
   step_from room at sub read good rest false more =
       let on : scan (suc room) s at ≡ before sub (scan room s (end_of sub)) = same.scan-on s room at sub read ∙ rw more in
-      let r = rest (made.more-on s octets at sub read more) (sym (ap (λ (o : Opening). o.number) on) ∙ good) in
+      let r = rest (made.more-on s octets at sub read more) (sym (ap (λ (o : Opening). o.refused) on) ∙ good) in
       let cs = map (content_of s) (scan room s (end_of sub)).subs in
       let final : is_none cs ≡ sub.last = not_none cs (rw length-map r.some) ∙ sym more in
       let w = needless s (end_of sub) (scan room s (end_of sub)).subs in
@@ -170,9 +170,9 @@ module _ (s : List ℕ) (octets : Octets s) where
         same = step_same at sub read cs w final r.longer r.same;
       })
 
-  from : (room at : ℕ) → at < length s → (scan room s at).number ≡ sound → From s room at (scan room s at).subs
+  from : (room at : ℕ) → at < length s → (scan room s at).refused ≡ None → From s room at (scan room s at).subs
   unfolding scan
-  from zero at here good = absurd (omega arith)
+  from zero at here good = cc
   from (suc room) at here good =
       let b = begins room at here good in
       step_from room at b.0 b.1 good (λ h g. from room (end_of b.0) h g) b.0.last refl
@@ -180,18 +180,18 @@ module _ (s : List ℕ) (octets : Octets s) where
 -- a sound frame is neither empty nor too long
 passes : (s : List ℕ) → Sound s → (1 ≤ length s) × (length s ≤ most_octets)
 passes s good =
-    let number : (scanned s).number ≡ sound = sym (turns.number_is s) ∙ good in
-    ⊎_elim (λ empty. absurd (omega (arith, ap (λ (o : Opening). o.number) (turns.empty s empty))))
+    let scans : (scanned s).refused ≡ None = sym (turns.same-refusal s) ∙ good in
+    ⊎_elim (λ empty. cc (turns.empty s empty, scans))
     (λ some.
-    ⊎_elim (λ long. absurd (omega (arith, ap (λ (o : Opening). o.number) (turns.long s some long)))) (λ short. (omega arith, short))
+    ⊎_elim (λ long. cc (turns.long s some long, scans)) (λ short. (omega arith, short))
     (lt-or-le most_octets (length s)))
     (eq-or-ne (length s) 0)
 
 pub as-long-as-joined : AsLongAsJoined
 as-long-as-joined s octets good =
     let p = passes s good in
-    let is : opening s ≡ scan most_sub_frames s 0 = turns.sound-is s (sym (turns.number_is s) ∙ good) ∙ turns.scans s (λ z. omega (arith, p.0)) p.1 in
-    let f = subst (λ (o : Opening). From s most_sub_frames 0 o.subs) (sym is) (from s octets most_sub_frames 0 p.0 (sym (ap (λ (o : Opening). o.number) is) ∙ good)) in
+    let is : opening s ≡ scan most_sub_frames s 0 = turns.sound-is s (sym (turns.same-refusal s) ∙ good) ∙ turns.scans s (λ z. omega (arith, p.0)) p.1 in
+    let f = subst (λ (o : Opening). From s most_sub_frames 0 o.subs) (sym is) (from s octets most_sub_frames 0 p.0 (sym (ap (λ (o : Opening). o.refused) is) ∙ good)) in
     let whole : length s - 0 ≡ length (joined (list s)) + needless s 0 (opening s).subs = f.longer in
     record {
       fits =

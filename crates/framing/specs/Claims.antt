@@ -1,9 +1,8 @@
 -- Demand 2, for frames: what is joined opens to the same list, and the joined form is the one shortest (document 01, "Frame
 -- and sub-frame"). `opening` is what `frame::open` answers by its contract, and `joined` is made of `shortest_header`,
 -- which `joining::put_header` writes by its contract. Proved in proofs/Same.antt, proofs/Shortest.antt and proofs/Octets.antt.
-use Rattle.std.specs.Prelude.{ℕ, ◌+◌, ◌≤◌, ◌≡◌, List, [], ◌∷◌, ◌++◌, map, Bool, false, cond, eqb, length, get_or, take, drop, replicate}
+use Rattle.std.specs.Prelude.{ℕ, ◌+◌, ◌≤◌, ◌≡◌, List, [], ◌∷◌, ◌++◌, map, Bool, false, cond, eqb, length, get_or, take, drop, replicate, None}
 use Rattle.octets.specs.Octets.{Octets}
-use Rattle.refusal.specs.Numbers.{sound}
 use Rattle.header.specs.declared.SubFrame.{SubFrame}
 use Rattle.header.specs.Header.{ei, end_of}
 use Rattle.frame.specs.Opening.{most_octets, most_sub_frames, opening}
@@ -37,7 +36,7 @@ list s = map (content_of s) (opening s).subs
 
 -- A sound frame.
 abbrev pub Sound : List ℕ → Type 0
-Sound s = (opening s).number ≡ sound
+Sound s = (opening s).refused ≡ None
 
 -- What is joined opens to the same list.
 abbrev pub OpensToTheSame : Type 0

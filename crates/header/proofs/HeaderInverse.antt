@@ -8,21 +8,14 @@ use native.Mathlib.Omega.{arith}
 use borrow.Author.Tests.{lt-ltb, eq-eqb, ne_eqb}
 use lib.ListN.{length, drop, length-drop}
 use Rattle.octets.proofs.Order.{lt-or-le, eq-or-ne}
+use Rattle.std.specs.declared.result.Result.TheVariants.{Ok, Err}
+use Rattle.std.specs.declared.option.Option.TheVariants.{Some}
+use Rattle.refusal.specs.declared.Refusal.{Refusal}
 use Rattle.header.specs.declared.SubFrame.{SubFrame}
-use Rattle.header.specs.declared.Header.{Header}
-use Rattle.header.specs.declared.Header.TheVariants.{Sub, Bad, Past}
 use Rattle.header.specs.Header.{li, spare, payload_type, size, octet1, octet1a, octet1b, cid_of, told, header_at, sub_at, SubAtTells, end_of}
 use Rattle.header.proofs.HeaderCases as cases
-
--- two constructors of a header are never equal
-never-bad : {A : Type 0} (h : Header) (number : ℕ) (sub : SubFrame) → h ≡ Bad number → h ≡ Sub sub → A
-never-bad h number sub p q = let z : ◌≡◌ {A = ℕ} 0 1 = cc in absurd (omega arith)
-
-never-past : {A : Type 0} (h : Header) (sub : SubFrame) → h ≡ Past → h ≡ Sub sub → A
-never-past h sub p q = let z : ◌≡◌ {A = ℕ} 0 1 = cc in absurd (omega arith)
-
-same-sub : (h : Header) (x y : SubFrame) → h ≡ Sub x → h ≡ Sub y → x ≡ y
-same-sub h x y p q = cc
+use Rattle.std.specs.declared.result.Result.{Result}
+use Rattle.std.specs.declared.option.Option.{Option}
 
 pub record Told (at o a b n : ℕ) (sub : SubFrame) : Type 0 where
   pub whole : size o ≤ n
@@ -35,23 +28,17 @@ pub record Told (at o a b n : ℕ) (sub : SubFrame) : Type 0 where
       × (b < n - size o)
       × (record { cid = cid_of o a; ptype = payload_type a; start = at + size o; len = b; last = false } ≡ sub))
 
--- a refusal has a number
-pub record Refused (h : Header) : Type 0 where
-  pub number : ℕ
-  pub is : h ≡ Bad number
-  pub some : 0 < number
-
-refused : (h : Header) (number : ℕ) → h ≡ Bad number → 0 < number → Refused h
-refused h number is some = record { number = number; is = is; some = some }
+abbrev pub IsRefused : Result (Option SubFrame) Refusal → Type 0
+IsRefused h = (refusal : Refusal) × (h ≡ Err refusal)
 
 -- a header is refused, or tells a sub-frame
-pub decided : (at o a b n : ℕ) → Refused (told at o a b n) ⊎ ((sub : SubFrame) × (told at o a b n ≡ Sub sub) × Told at o a b n sub)
+pub decided : (at o a b n : ℕ) → IsRefused (told at o a b n) ⊎ ((sub : SubFrame) × (told at o a b n ≡ Ok (Some sub)) × Told at o a b n sub)
 decided at o a b n =
     ⊎_elim
-    (λ short. inl (refused _ _ (cases.cut at o a b n short) (omega arith)))
+    (λ short. inl (_, cases.cut at o a b n short))
     (λ whole.
     ⊎_elim
-    (λ small. inl (refused _ _ (cases.reserved at o a b n whole small) (omega arith)))
+    (λ small. inl (_, cases.reserved at o a b n whole small))
     (λ free.
     ⊎_elim
     (λ clear.
@@ -61,28 +48,28 @@ decided at o a b n =
     inr (_, e, record { whole = whole; free = free; clear = clear; is = inl (final, refl) }))
     (λ more.
     ⊎_elim
-    (λ past. inl (refused _ _ (cases.past at o a b n whole free clear more past) (omega arith)))
+    (λ past. inl (_, cases.past at o a b n whole free clear more past))
     (λ within.
     ⊎_elim
-    (λ ends. inl (refused _ _ (cases.ends at o a b n whole free clear more within ends) (omega arith)))
+    (λ ends. inl (_, cases.ends at o a b n whole free clear more within ends))
     (λ goes.
     let e = cases.another at o a b n whole free clear more within goes in
     inr (_, e, record { whole = whole; free = free; clear = clear; is = inr (more, omega arith, refl) }))
     (eq-or-ne (n - size o) b))
     (lt-or-le (n - size o) b))
     (eq-or-ne (li o) 0))
-    (λ set. inl (refused _ _ (cases.spare-set at o a b n whole free set) (omega arith)))
+    (λ set. inl (_, cases.spare-set at o a b n whole free set))
     (eq-or-ne (spare a) 0))
     (lt-or-le (cid_of o a) 4))
     (lt-or-le n (size o))
 
-told-inverse : (at o a b n : ℕ) (sub : SubFrame) → told at o a b n ≡ Sub sub → Told at o a b n sub
+told-inverse : (at o a b n : ℕ) (sub : SubFrame) → told at o a b n ≡ Ok (Some sub) → Told at o a b n sub
 told-inverse at o a b n sub e =
-    ⊎_elim (λ r. never-bad _ _ _ r.is e) (λ w. subst (Told at o a b n) (same-sub _ _ _ w.1 e) w.2) (decided at o a b n)
+    ⊎_elim (λ r. cc (r.1, e)) (λ w. let same : w.0 ≡ sub = cc (w.1, e) in subst (Told at o a b n) same w.2) (decided at o a b n)
 
-module _ (s : List ℕ) (at : ℕ) (sub : SubFrame) (e : header_at s at ≡ Sub sub) where
+module _ (s : List ℕ) (at : ℕ) (sub : SubFrame) (e : header_at s at ≡ Ok (Some sub)) where
   pub here : at < length s
-  here = ⊎_elim (λ h. h) (λ h. never-past _ _ (cases.nothing s at h) e) (lt-or-le at (length s))
+  here = ⊎_elim (λ h. h) (λ h. cc (cases.nothing s at h, e)) (lt-or-le at (length s))
 
   pub read-inverse : Told at (octet1 (drop at s)) (octet1a (drop at s)) (octet1b (drop at s)) (length (drop at s)) sub
   read-inverse = told-inverse _ _ _ _ _ sub (sym (cases.there s at here) ∙ e)

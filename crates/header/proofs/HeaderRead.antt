@@ -1,6 +1,6 @@
 -- A header by the octets that the code reads: octet 1 and 1a, and the place behind them.
 use Prim.Native.Nat.{ℕ, ◌+◌, ◌-◌, ◌%◌, ◌<◌, ◌≤◌}
-use mathlib.Core.Path.{◌≡◌, refl, sym, ap, ◌∙◌}
+use mathlib.Core.Path.{◌≡◌, refl, sym, ap, subst, ◌∙◌}
 use mathlib.Core.List.{List}
 use mathlib.Core.Bool.{true, false, cond}
 use native.Mathlib.Nat.{add-zero}
@@ -9,10 +9,11 @@ use borrow.Author.Tests.{lt-ltb, le-ltb, eq-eqb, ne_eqb}
 use lib.Dec.{eqb}
 use lib.ListN.{length, get_or, drop, length-drop}
 use lib.Seq.{get_or-drop}
-use Rattle.refusal.specs.Numbers.{header_cut, length_past_field, last_with_length}
 use Rattle.header.specs.declared.SubFrame.{SubFrame}
-use Rattle.header.specs.declared.Header.{Header}
-use Rattle.header.specs.declared.Header.TheVariants.{Sub, Bad}
+use Rattle.std.specs.declared.result.Result.TheVariants.{Ok, Err}
+use Rattle.std.specs.declared.option.Option.TheVariants.{Some}
+use Rattle.refusal.specs.declared.Refusal.{Refusal}
+use Rattle.refusal.specs.declared.Refusal.TheVariants.{HeaderCut, LengthPastField, LastWithLength}
 use Rattle.header.specs.Header.{ei, li, payload_type, size, octet1, cid_of, sub_of, told, header_at, unused, sub_at}
 use Rattle.header.specs.Private.{unless_reserved}
 use Rattle.header.proofs.HeaderCases as cases
@@ -39,7 +40,7 @@ module _ (s : List ℕ) (at : ℕ) where
   none-there h = simp (le-ltb at (length s) h)
 
   -- octet 1a is missing
-  pub no-1a : 127 < get_or s at 0 → at < length s → length s ≤ at + 1 → Bad header_cut ≡ header_at s at
+  pub no-1a : 127 < get_or s at 0 → at < length s → length s ≤ at + 1 → Err HeaderCut ≡ header_at s at
   no-1a high here short = sym (cases.there s at here ∙ cases.cut _ _ _ _ _ (simp (get_or-drop, length-drop, add-zero) (omega arith)))
 
 -- the CID that these octets tell
@@ -109,16 +110,28 @@ module _ {s : List ℕ} {at a next cid : ℕ} (r : Begun s at a next cid) where
   at_more more len_is = rw len_is (more-is more ∙ sym (sub_is ∙ simp (ne_eqb (li o) 0 more)))
 
   -- what `header_at` answers
-  pub cut : (li o ≡ 0 → ⊥) → length s - next ≡ 0 → Bad header_cut ≡ header_at s at
+  pub cut : (li o ≡ 0 → ⊥) → length s - next ≡ 0 → Err HeaderCut ≡ header_at s at
   cut more none = sym (told_is ∙ cases.cut at o a b n (omega (arith, r.way.behind, one more)))
 
-  -- a header that is there whole tells k, unless 4 or 5 comes first
-  whole-told : {h k : Header} → h ≡ k → told at o a b n ≡ unless_reserved (cid_of o a) a k → unless_reserved cid a h ≡ header_at s at
-  whole-told same w = rw (r.cid-is, same) (sym (told_is ∙ w))
+  last-whole : next ≤ length s → li o ≡ 0 → size o ≤ n
+  last-whole within final = omega (arith, r.way.behind, r.here)
 
-  pub last_one : next ≤ length s → li o ≡ 0 → unless_reserved cid a (Sub final-sub) ≡ header_at s at
-  last_one within final =
-      whole-told (ap Sub (final-is final)) (cases.last-whole at o a b n (omega (arith, r.way.behind, r.here)) final)
+  refuses : size o ≤ n → (refusal : Refusal) (x : SubFrame) → x.cid ≡ cid → unless_reserved a x ≡ Err refusal → Err refusal ≡ header_at s at
+  refuses whole refusal x same e = sym (told_is ∙ cases.refuses at o a b n whole refusal x (same ∙ r.cid-is) e)
+
+  passes : (x y : SubFrame) → x.cid ≡ cid → unless_reserved a x ≡ Ok y → cases.Free (cid_of o a) a × (y ≡ x)
+  passes x y same e =
+      let p = cases.passes a x y e in
+      (subst (λ (k : ℕ). cases.Free k a) (same ∙ r.cid-is) p.0, p.1)
+
+  pub last-refused :
+      next ≤ length s → li o ≡ 0 → (refusal : Refusal) → unless_reserved a final-sub ≡ Err refusal → Err refusal ≡ header_at s at
+  last-refused within final refusal = refuses (last-whole within final) refusal final-sub refl
+
+  pub last_one : next ≤ length s → li o ≡ 0 → (sub : SubFrame) → unless_reserved a final-sub ≡ Ok sub → Ok (Some sub) ≡ header_at s at
+  last_one within final sub e =
+      let p = passes final-sub sub refl e in
+      rw (p.1, final-is final) (sym (told_is ∙ cases.last_one at o a b n (last-whole within final) p.0.free p.0.clear final))
 
   module _ (more : li o ≡ 0 → ⊥) (some : length s - next ≡ 0 → ⊥) where
     whole : size o ≤ n
@@ -133,13 +146,22 @@ module _ {s : List ℕ} {at a next cid : ℕ} (r : Begun s at a next cid) where
     rest-is : n - size o ≡ length s - next - 1
     rest-is = omega (arith, r.way.behind, one more)
 
-    pub another : len < length s - next - 1 → unless_reserved cid a (Sub more-sub) ≡ header_at s at
-    another h =
-        whole-told (ap Sub (more-is more))
-        (cases.another-whole at o a b n whole more (omega (arith, is, rest-is)) (λ z. omega (arith, is, rest-is, z)))
+    pub more-refused : (refusal : Refusal) → unless_reserved a more-sub ≡ Err refusal → Err refusal ≡ header_at s at
+    more-refused refusal = refuses whole refusal more-sub refl
 
-    pub past : length s - next - 1 < len → unless_reserved cid a (Bad length_past_field) ≡ header_at s at
-    past h = whole-told refl (cases.past-whole at o a b n whole more (omega (arith, is, rest-is)))
+    module _ (sub : SubFrame) (e : unless_reserved a more-sub ≡ Ok sub) where
+      pub past : length s - next - 1 < len → Err LengthPastField ≡ header_at s at
+      past h =
+          let f = (passes more-sub sub refl e).0 in
+          sym (told_is ∙ cases.past at o a b n whole f.free f.clear more (omega (arith, is, rest-is)))
 
-    pub ends : len ≤ length s - next - 1 → length s - next - 1 ≤ len → unless_reserved cid a (Bad last_with_length) ≡ header_at s at
-    ends h g = whole-told refl (cases.ends-whole at o a b n whole more (omega (arith, is, rest-is)) (omega (arith, is, rest-is)))
+      pub ends : len ≤ length s - next - 1 → length s - next - 1 ≤ len → Err LastWithLength ≡ header_at s at
+      ends h g =
+          let f = (passes more-sub sub refl e).0 in
+          sym (told_is ∙ cases.ends at o a b n whole f.free f.clear more (omega (arith, is, rest-is)) (omega (arith, is, rest-is)))
+
+      pub another : len < length s - next - 1 → Ok (Some sub) ≡ header_at s at
+      another h =
+          let p = passes more-sub sub refl e in
+          rw (p.1, more-is more)
+          (sym (told_is ∙ cases.another at o a b n whole p.0.free p.0.clear more (omega (arith, is, rest-is)) (λ z. omega (arith, is, rest-is, z))))

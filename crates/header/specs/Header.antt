@@ -5,12 +5,11 @@
 --   octet 1a      CID     0   0   payload type      exactly when EI is 1: the high bits of the CID, two spare bits, the type
 --   octet 1b      payload length                    exactly when LI is 1
 --   payload
-use Rattle.std.specs.Prelude.{ℕ, ◌+◌, ◌-◌, ◌*◌, ◌/◌, ◌%◌, ◌≡◌, List, [], ◌∷◌, Bool, false, cond, ltb, eqb, length, get_or, drop}
-use Rattle.refusal.specs.Numbers.{header_cut, cid_reserved, spare_bit_set, length_past_field, last_with_length}
+use Rattle.std.specs.Prelude.{ℕ, ◌+◌, ◌-◌, ◌*◌, ◌/◌, ◌%◌, ◌≡◌, List, [], ◌∷◌, Bool, false, cond, ltb, eqb, length, get_or, drop, Option, Some, None, Result, Ok, Err}
 use Rattle.refusal.specs.Order.{◌gives◌, in_order}
 use Rattle.header.specs.declared.SubFrame.{SubFrame}
-use Rattle.header.specs.declared.Header.{Header}
-use Rattle.header.specs.declared.Header.TheVariants.{Sub, Bad, Past}
+use Rattle.refusal.specs.declared.Refusal.{Refusal}
+use Rattle.refusal.specs.declared.Refusal.TheVariants.{HeaderCut, CidReserved, SpareBitSet, LengthPastField, LastWithLength}
 
 -- Octet 1: bit 8 EI, bit 7 LI, bits 6 to 1 the low six bits of the CID.
 abbrev pub ei : ℕ → ℕ
@@ -76,23 +75,23 @@ abbrev pub ◌unless◌ : Bool → Bool → Bool
 test unless exempt = cond exempt false test
 
 -- What these octets tell: the refusals in the order 3, 4, 5, 6, 7, or the sub-frame.
-unfoldable pub told : ℕ → ℕ → ℕ → ℕ → ℕ → Header
+unfoldable pub told : ℕ → ℕ → ℕ → ℕ → ℕ → Result (Option SubFrame) Refusal
 told at o a b n =
     in_order
-    (ltb n (size o) gives header_cut
-    ∷ ltb (cid_of o a) 4 gives cid_reserved
-    ∷ ltb 0 (spare a) gives spare_bit_set
-    ∷ ltb (n - size o) b unless is_last o gives length_past_field
-    ∷ eqb (n - size o) b unless is_last o gives last_with_length
+    (ltb n (size o) gives HeaderCut
+    ∷ ltb (cid_of o a) 4 gives CidReserved
+    ∷ ltb 0 (spare a) gives SpareBitSet
+    ∷ ltb (n - size o) b unless is_last o gives LengthPastField
+    ∷ eqb (n - size o) b unless is_last o gives LastWithLength
     ∷ [])
-    Bad
-    (Sub (sub_of at o a b n))
+    Err
+    (Ok (Some (sub_of at o a b n)))
 
 -- The header whose first octet stands at `at` in the frame s.
-unfoldable pub header_at : List ℕ → ℕ → Header
+unfoldable pub header_at : List ℕ → ℕ → Result (Option SubFrame) Refusal
 header_at s at =
     let f = drop at s in
-    cond (ltb at (length s)) (told at (octet1 f) (octet1a f) (octet1b f) (length f)) Past
+    cond (ltb at (length s)) (told at (octet1 f) (octet1a f) (octet1b f) (length f)) (Ok None)
 
 -- no sub-frame
 abbrev pub unused : SubFrame
@@ -107,4 +106,4 @@ sub_at s at =
 
 -- Where `header_at` tells a sub-frame, it is that one. Proved in proofs/HeaderInverse.antt.
 abbrev pub SubAtTells : Type 0
-SubAtTells = (s : List ℕ) (at : ℕ) (sub : SubFrame) → header_at s at ≡ Sub sub → sub_at s at ≡ sub
+SubAtTells = (s : List ℕ) (at : ℕ) (sub : SubFrame) → header_at s at ≡ Ok (Some sub) → sub_at s at ≡ sub

@@ -5,24 +5,16 @@ ghost use Rattle.std.specs.Prelude.{◌≡◌};
 ghost use Rattle.header.specs.Header.{cid_of, header_at, sub_at};
 ghost use Rattle.header.specs.Private.{unless_reserved};
 
+use refusal::Refusal;
+
 // A sub-frame of a frame: its payload is the len octets of the frame from start on.
-#[derive(Clone, Copy)]
+#[derive(Clone, Copy, Debug, PartialEq, Eq)]
 pub struct SubFrame {
     pub cid: u8,
     pub ptype: u8,
     pub start: usize,
     pub len: usize,
     pub last: bool,
-}
-
-// What reading a header at a place finds.
-#[derive(Clone, Copy)]
-pub enum Header {
-    Sub(SubFrame),
-    // The refusal number, 3 to 7.
-    Bad(u8),
-    // The frame has no octet there.
-    Past,
 }
 
 // No sub-frame.
@@ -41,25 +33,26 @@ fn cid_of(octet1: u8, octet1a: u8) -> u8
     octet1a / 64 * 64 + octet1 % 64
 }
 
-// What a header tells, unless a reserved CID or a spare bit refuses it.
-fn unless_reserved(cid: u8, octet1a: u8, told: Header) -> Header
-    ensures { result ≡ unless_reserved cid octet1a told }
+// A sub-frame, unless a reserved CID or a spare bit refuses it.
+fn unless_reserved(octet1a: u8, sub: SubFrame) -> Result<SubFrame, Refusal>
+    ensures { result ≡ unless_reserved octet1a sub }
 {
-    if cid < 4 {
-        return Header::Bad(refusal::CID_RESERVED);
+    if sub.cid < 4 {
+        return Err(Refusal::CidReserved);
     }
     if 0 < octet1a / 16 % 4 {
-        return Header::Bad(refusal::SPARE_BIT_SET);
+        return Err(Refusal::SpareBitSet);
     }
-    told
+    Ok(sub)
 }
 
-// The header whose first octet stands at `at`.
-pub fn header_at(frame: &[u8], at: usize) -> Header
+// What the header tells whose first octet stands at `at`: its sub-frame, or a refusal, 3 to 7; nothing, where the frame has no octet
+// there.
+pub fn header_at(frame: &[u8], at: usize) -> Result<Option<SubFrame>, Refusal>
     ensures { result ≡ header_at frame.now at }
 {
     if frame.len() <= at {
-        return Header::Past;
+        return Ok(None);
     }
     let octet1 = frame[at];
     // Octet 1a, and where octet 1b or the payload begins.
@@ -67,7 +60,7 @@ pub fn header_at(frame: &[u8], at: usize) -> Header
     let mut next = at + 1;
     if 127 < octet1 {
         if frame.len() <= next {
-            return Header::Bad(refusal::HEADER_CUT);
+            return Err(Refusal::HeaderCut);
         }
         octet1a = frame[next];
         next = at + 2;
@@ -76,34 +69,35 @@ pub fn header_at(frame: &[u8], at: usize) -> Header
     let cid = cid_of(octet1, octet1a);
     let ptype = octet1a % 16;
     if octet1 / 64 % 2 == 0 {
-        let sub = Header::Sub(SubFrame {
+        let sub = SubFrame {
             cid,
             ptype,
             start: next,
             len: left,
             last: true,
-        });
-        return unless_reserved(cid, octet1a, sub);
+        };
+        return Ok(Some(unless_reserved(octet1a, sub)?));
     }
     if left == 0 {
-        return Header::Bad(refusal::HEADER_CUT);
+        return Err(Refusal::HeaderCut);
     }
     let len = frame[next] as usize;
+    let sub = SubFrame {
+        cid,
+        ptype,
+        start: next + 1,
+        len,
+        last: false,
+    };
+    let sub = unless_reserved(octet1a, sub)?;
     let rest = left - 1;
     if len < rest {
-        let sub = Header::Sub(SubFrame {
-            cid,
-            ptype,
-            start: next + 1,
-            len,
-            last: false,
-        });
-        return unless_reserved(cid, octet1a, sub);
+        return Ok(Some(sub));
     }
     if rest < len {
-        return unless_reserved(cid, octet1a, Header::Bad(refusal::LENGTH_PAST_FIELD));
+        return Err(Refusal::LengthPastField);
     }
-    unless_reserved(cid, octet1a, Header::Bad(refusal::LAST_WITH_LENGTH))
+    Err(Refusal::LastWithLength)
 }
 
 // The sub-frame whose header stands at `at`, of a frame whose headers were checked.
@@ -123,16 +117,11 @@ pub fn sub_at(frame: &[u8], at: usize) -> SubFrame
     let cid = cid_of(octet1, octet1a);
     let ptype = octet1a % 16;
     if octet1 / 64 % 2 == 0 {
-        let len = if next < frame.len() {
-            frame.len() - next
-        } else {
-            0
-        };
         return SubFrame {
             cid,
             ptype,
             start: next,
-            len,
+            len: frame.len().saturating_sub(next),
             last: true,
         };
     }

@@ -1,5 +1,5 @@
 -- The values of hex characters, one by one and in pairs, in the terms of the code.
-use Rattle.std.proofs.Common.{◌≡◌, ℕ, zero, suc, ◌+◌, ◌-◌, ◌*◌, ◌/◌, ◌%◌, ◌<◌, ◌≤◌, Bool, true, false, cond, eqb, ◌⊎◌, List, [], ◌∷◌, ◌++◌, length, get_or, take, sym, refl, ap, ◌∙◌, inl, inr, ⊎_elim, add-one, arith, take-suc, ltb-false, le-ltb, lt-ltb}
+use Rattle.std.proofs.Common.{◌≡◌, ℕ, zero, suc, ◌+◌, ◌-◌, ◌*◌, ◌/◌, ◌%◌, ◌<◌, ◌≤◌, Bool, true, false, cond, ◌⊎◌, List, [], ◌∷◌, ◌++◌, length, get_or, take, sym, refl, ap, ◌∙◌, inl, inr, ⊎_elim, add-one, arith, take-suc, ltb-false, le-ltb, lt-ltb}
 use lib.Bits.{bit_and, bit_or, and_block, and_mask}
 use Rattle.refusal.specs.Order.{◌or◌}
 use Rattle.octets.proofs.Order.{lt-or-le}
@@ -156,10 +156,6 @@ pub flaws-more :
 flaws-more chars i flaws one h f o =
     rw (f, o, add-one i, take-suc chars i 0 h)
     (join (any_other (take i chars)) (is_other (get_or chars i 0)) ∙ ap (λ (t : Bool). cond t 1 0) (sym (other-more (take i chars) (get_or chars i 0))))
-
-pub told : (t : Bool) → eqb (cond t 1 0) 1 ≡ t
-told true = refl
-told false = refl
 
 -- without one, each is a hex character
 pub each : (chars : List ℕ) (i : ℕ) → any_other chars ≡ false → i < length chars → hex_value (get_or chars i 0) ≤ 15

@@ -1,6 +1,6 @@
 -- The loop of `decode`: the octets that stand are those of the pairs passed.
-use Rattle.std.proofs.Common.{◌≡◌, ℕ, ◌+◌, ◌*◌, ◌/◌, ◌%◌, ◌<◌, ◌≤◌, false, List, length, get_or, set, sym, refl, ap, ◌∙◌, arith}
-use lib.Seq.{paste, paste-zero}
+use Rattle.std.proofs.Common.{◌≡◌, ℕ, ◌+◌, ◌*◌, ◌/◌, ◌%◌, ◌<◌, ◌≤◌, false, List, length, get_or, set, sym, ap, ◌∙◌, arith}
+use lib.Seq.{paste}
 use Rattle.octets.specs.Room.{written}
 use Rattle.octets.proofs.Writes as writes
 use Rattle.hexline.specs.Hex.{hex_value, any_other, paired}
@@ -12,17 +12,10 @@ pub record Going (chars frame₀ frame : List ℕ) (n i : ℕ) : Type 0 where
   pub within : i ≤ n
   pub is : frame ≡ paste frame₀ 0 (paired chars) i
 
-pub begins : (chars frame : List ℕ) → Going chars frame frame (length chars / 2) 0
-begins chars frame = record { half = refl; within = omega arith; is = paste-zero frame 0 (paired chars) }
-
 module _ {chars frame₀ frame : List ℕ} {n i : ℕ} (going : Going chars frame₀ frame n i) (hex : any_other chars ≡ false)
     (fits : length chars / 2 ≤ length frame₀) where
   size : length (paired chars) ≡ n
   size = characters.pairs-size chars ∙ sym going.half
-
-  pub same_length : length frame ≡ length frame₀
-  same_length =
-      writes.same_length frame₀ (paired chars) frame 0 i (omega (arith, size, going.half)) (omega (arith, size, going.within)) going.is
 
   -- one pair
   module _ (more : i < n) {both : ℕ} (is : both ≡ get_or chars (i * 2 + 1) 0 * 256 + get_or chars (i * 2) 0) where

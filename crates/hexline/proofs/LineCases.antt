@@ -1,50 +1,46 @@
 -- What a line holds, case by case, in the terms of the code.
-use Rattle.std.proofs.Common.{◌≡◌, ℕ, ◌-◌, ◌/◌, ◌%◌, ◌<◌, ◌≤◌, Bool, true, false, ltb, List, [], ◌++◌, length, get_or, take, drop, sym, refl, ap, ◌∙◌, ⊎_elim, le_trans, arith, length-drop, drop_of_length-le, length-take, ltb-false, le-ltb, lt-ltb, eq-eqb, ne_eqb}
+use Rattle.std.proofs.Common.{◌≡◌, ℕ, ◌-◌, ◌/◌, ◌%◌, ◌<◌, ◌≤◌, Bool, true, false, List, [], ◌++◌, length, get_or, take, drop, refl, ap, ◌∙◌, ⊎_elim, le_trans, arith, length-drop, drop_of_length-le, length-take, le-ltb, lt-ltb, eq-eqb, ne_eqb}
 use mathlib.Core.Path.{subst⁻¹}
-use Rattle.refusal.specs.Numbers.{sound, field_too_long, hex_malformed, room_too_small}
 use Rattle.refusal.specs.Order.{◌or◌}
-use Rattle.octets.specs.Room.{written}
 use Rattle.octets.specs.Text.{starts}
 use Rattle.octets.proofs.Order.{lt-or-le, eq-or-ne, either}
 use Rattle.octets.proofs.Texts as texts
-use Rattle.hexline.specs.declared.Read.{Read}
 use Rattle.hexline.specs.Hex.{any_other, paired}
-use Rattle.hexline.specs.Line.{frame_key, Held, octets, refused, line_read, in_room, read_of, octets_of}
+use Rattle.hexline.specs.Line.{frame_key, Held, octets, refused, line_read, in_room}
 use Rattle.hexline.proofs.Characters as characters
 use Rattle.octets.proofs.Writes as writes
+use Rattle.refusal.specs.declared.Refusal.{Refusal}
+use Rattle.refusal.specs.declared.Refusal.TheVariants.{FieldTooLong, HexMalformed}
 
 -- a test that holds, behind others
-second : (a d : Bool) → (a or true or d) ≡ true
+pub second : (a d : Bool) → (a or true or d) ≡ true
 second true d = refl
 second false d = refl
 
-third : (a b d : Bool) → (a or b or true or d) ≡ true
+pub third : (a b d : Bool) → (a or b or true or d) ≡ true
 third true b d = refl
 third false b d = second b d
 
-last : (a b c : Bool) → (a or b or c or true) ≡ true
+pub last : (a b c : Bool) → (a or b or c or true) ≡ true
 last true b c = refl
 last false true c = refl
 last false false c = second c true
 
 module _ (line : List ℕ) where
-  pub otherwise : starts line frame_key ≡ false → line_read line ≡ refused hex_malformed
+  pub otherwise : starts line frame_key ≡ false → line_read line ≡ refused HexMalformed
   unfolding line_read
   otherwise e = simp (e, last)
 
   module _ (keyed : starts line frame_key ≡ true) where
-    pub at_least : 6 ≤ length line
-    at_least = texts.starts-length line frame_key keyed
-
     module _ (none : get_or line (length line - 1) 0 ≡ 10 → ⊥) where
       count-all : length line - 6 - 0 ≡ length line - 6
       count-all = omega arith
 
-      pub long-cut : 3200 < length line - 6 → line_read line ≡ refused field_too_long
+      pub long-cut : 3200 < length line - 6 → line_read line ≡ refused FieldTooLong
       unfolding line_read
       long-cut h = simp (keyed, ne_eqb (get_or line (length line - 1) 0) 10 none, count-all, lt-ltb 3200 (length line - 6) h)
 
-      pub cut : length line - 6 ≤ 3200 → line_read line ≡ refused hex_malformed
+      pub cut : length line - 6 ≤ 3200 → line_read line ≡ refused HexMalformed
       unfolding line_read
       cut h = simp (keyed, ne_eqb (get_or line (length line - 1) 0) 10 none, count-all, le-ltb 3200 (length line - 6) h, third)
 
@@ -63,18 +59,18 @@ module _ (line : List ℕ) where
       count : length line - 6 - 1 ≡ length line - 1 - 6
       count = omega arith
 
-      pub long : 3200 < length line - 1 - 6 → line_read line ≡ refused field_too_long
+      pub long : 3200 < length line - 1 - 6 → line_read line ≡ refused FieldTooLong
       unfolding line_read
       long h = simp (keyed, eq-eqb (get_or line (length line - 1) 0) 10 lf, count, lt-ltb 3200 (length line - 1 - 6) h)
 
       module _ (few : length line - 1 - 6 ≤ 3200) where
-        pub uneven : (length line - 1 - 6) % 2 ≡ 1 → line_read line ≡ refused hex_malformed
+        pub uneven : (length line - 1 - 6) % 2 ≡ 1 → line_read line ≡ refused HexMalformed
         unfolding line_read
         uneven h =
             simp (keyed, eq-eqb (get_or line (length line - 1) 0) 10 lf, count, le-ltb 3200 (length line - 1 - 6) few, eq-eqb ((length line - 1 - 6) % 2) 1 h)
 
         module _ (even : (length line - 1 - 6) % 2 ≡ 1 → ⊥) where
-          pub other : any_other (take (length line - 1 - 6) (drop 6 line)) ≡ true → line_read line ≡ refused hex_malformed
+          pub other : any_other (take (length line - 1 - 6) (drop 6 line)) ≡ true → line_read line ≡ refused HexMalformed
           unfolding line_read
           other h =
               simp (
@@ -107,52 +103,24 @@ module _ (line : List ℕ) where
       pub size : length (paired (take (length line - 1 - 6) (drop 6 line))) ≡ (length line - 1 - 6) / 2
       size = characters.pairs-size (take (length line - 1 - 6) (drop 6 line)) ∙ ap (λ (k : ℕ). k / 2) half
 
--- What the code promises, from what the line holds.
-abbrev pub Promised : List ℕ → List ℕ → Read → List ℕ → Type 0
-Promised line frame r after =
-    (r ≡ read_of (in_room (length frame) (line_read line)))
-    × (after ≡ written frame 0 (octets_of (in_room (length frame) (line_read line))))
-
-module _ (line frame : List ℕ) where
-  pub refuses : {r : Read} {number : ℕ} → r ≡ read_of (refused number) → line_read line ≡ refused number → Promised line frame r frame
-  refuses says e = rw e (says, sym (writes.written_none frame 0))
-
-  module _ {s : List ℕ} {n : ℕ} (size : length s ≡ n) (e : line_read line ≡ octets s) where
-    pub no_room : {r : Read} → length frame < n → r ≡ read_of (refused room_too_small) → Promised line frame r frame
-    no_room h says =
-        let short : length frame < length s = omega arith in
-        rw e (simp (lt-ltb (length frame) (length s) short) (says, sym (writes.written_none frame 0)))
-
-    pub decodes :
-        {after : List ℕ}
-        → n ≤ length frame
-        → after ≡ written frame 0 s
-        → Promised line frame (record { number = sound; octets = n }) after
-    decodes h is =
-        let fits : length s ≤ length frame = omega arith in
-        rw e (simp (le-ltb (length frame) (length s) fits) (rw size refl, is))
-
--- A line holds at most 1,600 octets, or is refused with a number that is not 0.
+-- A line holds at most 1,600 octets.
 abbrev pub Fair : Held → Type 0
 Fair (octets s) = length s ≤ 1600
-Fair (refused number) = number ≡ sound → ⊥
+Fair (refused refusal) = Unit {0}
 
 module _ (line : List ℕ) where
-  by_number : {number : ℕ} → line_read line ≡ refused number → (number ≡ sound → ⊥) → Fair (line_read line)
-  by_number e some = subst⁻¹ Fair e some
-
-  by_size : {s : List ℕ} → line_read line ≡ octets s → length s ≤ 1600 → Fair (line_read line)
-  by_size e small = subst⁻¹ Fair e small
+  fair-refused : {refusal : Refusal} → line_read line ≡ refused refusal → Fair (line_read line)
+  fair-refused e = subst⁻¹ Fair e tt
 
   module _ (keyed : starts line frame_key ≡ true) where
     ended-fair : get_or line (length line - 1) 0 ≡ 10 → Fair (line_read line)
     ended-fair lf =
-        ⊎_elim (λ (h : 3200 < length line - 1 - 6). by_number (long line keyed lf h) (λ z. omega arith))
+        ⊎_elim (λ (h : 3200 < length line - 1 - 6). fair-refused (long line keyed lf h))
         (λ (h : length line - 1 - 6 ≤ 3200).
-        ⊎_elim (λ o. by_number (uneven line keyed lf h o) (λ z. omega arith))
+        ⊎_elim (λ o. fair-refused (uneven line keyed lf h o))
         (λ e.
-        either (λ bad. by_number (other line keyed lf h e bad) (λ z. omega arith))
-        (λ hex. by_size (whole line keyed lf h e hex) (omega (arith, size line keyed lf)))
+        either (λ bad. fair-refused (other line keyed lf h e bad))
+        (λ hex. subst⁻¹ Fair (whole line keyed lf h e hex) (omega (arith, size line keyed lf)))
         (any_other (take (length line - 1 - 6) (drop 6 line)))
         refl)
         (eq-or-ne ((length line - 1 - 6) % 2) 1))
@@ -160,22 +128,20 @@ module _ (line : List ℕ) where
 
     cut-fair : (get_or line (length line - 1) 0 ≡ 10 → ⊥) → Fair (line_read line)
     cut-fair none =
-        ⊎_elim (λ (h : 3200 < length line - 6). by_number (long-cut line keyed none h) (λ z. omega arith))
-        (λ (h : length line - 6 ≤ 3200). by_number (cut line keyed none h) (λ z. omega arith))
+        ⊎_elim (λ (h : 3200 < length line - 6). fair-refused (long-cut line keyed none h))
+        (λ (h : length line - 6 ≤ 3200). fair-refused (cut line keyed none h))
         (lt-or-le 3200 (length line - 6))
 
   pub fair : Fair (line_read line)
   fair =
       either (λ keyed. ⊎_elim (ended-fair keyed) (cut-fair keyed) (eq-or-ne (get_or line (length line - 1) 0) 10))
-      (λ e. by_number (otherwise line e) (λ z. omega arith))
+      (λ e. fair-refused (otherwise line e))
       (starts line frame_key)
       refl
 
 -- Room for 1,600 octets is enough.
 pub in-room : (room : ℕ) (held : Held) → 1600 ≤ room → Fair held → in_room room held ≡ held
 in-room room (octets s) h fair = simp (le-ltb room (length s) (le_trans fair h))
-in-room room (refused number) h fair = refl
+in-room room (refused refusal) h fair = refl
 
-pub fits : (room : ℕ) (held : Held) → (read_of (in_room room held)).octets ≤ room
-fits room (octets s) = either (λ e. rw e (omega arith)) (λ e. rw e (ltb-false room (length s) e)) (ltb room (length s)) refl
-fits room (refused number) = omega arith
+pub ruleset keyed = (texts.starts-length, with-lf, last, second, third, size, writes.written_none)

@@ -7,10 +7,10 @@ ghost use Rattle.hexline.specs.Hex.{hex_value, is_other, any_other, paired};
 fn flaw(c: u8) -> u8
     ensures { result ≡ (if is_other c then 1 else 0) }
 {
-    if std::num::wrapping_sub_u8(c, 48) < 10 {
+    if c.wrapping_sub(b'0') < 10 {
         return 0;
     }
-    if std::num::wrapping_sub_u8(c, 97) < 6 {
+    if c.wrapping_sub(b'a') < 6 {
         return 0;
     }
     1
@@ -21,10 +21,8 @@ pub(crate) fn any_other(chars: &[u8]) -> bool
     ensures { result ≡ any_other chars.now }
 {
     let mut flaws: u8 = 0;
-    let mut i: usize = 0;
-    while i < chars.len() {
-        flaws = flaws | flaw(chars[i]);
-        i += 1;
+    for c in chars {
+        flaws |= flaw(*c);
     }
     flaws == 1
 }
@@ -49,10 +47,7 @@ pub(crate) fn decode(chars: &[u8], frame: &mut [u8])
     requires chars_in_bounds { length chars.now / 2 ≤ length frame.old }
     ensures { frame.new ≡ written frame.old 0 (paired chars.now) }
 {
-    let n = chars.len() / 2;
-    let mut i: usize = 0;
-    while i < n {
+    for i in 0..chars.len() / 2 {
         frame[i] = octet_of(octets::double(chars[i * 2 + 1], chars[i * 2]));
-        i += 1;
     }
 }

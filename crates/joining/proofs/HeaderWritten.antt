@@ -10,10 +10,10 @@ use borrow.Author.Tests.{lt-ltb, le-ltb, eq-eqb, ne_eqb}
 use lib.ListN.{length}
 use lib.Seq.{sets, sets-eq}
 use Rattle.octets.proofs.Order.{lt-or-le, eq-or-ne}
-use Rattle.refusal.specs.Numbers.{cid_reserved, value_out_of_range, room_too_small}
-use Rattle.octets.specs.declared.Put.TheVariants.{Written, NotWritten}
 use Rattle.octets.specs.Room.{left_by}
 use Rattle.joining.specs.Joining.{ei_for, li_for, header_with, shortest_header, header_size, header_put}
+use Rattle.refusal.specs.declared.Refusal.TheVariants.{CidReserved, ValueOutOfRange, RoomTooSmall}
+use Rattle.std.specs.declared.result.Result.TheVariants.{Ok, Err}
 
 module _ (cid ptype : ℕ) where
   -- EI is left out where octet 1a would be 0, and set otherwise
@@ -63,21 +63,21 @@ unfolding shortest_header header_size
 size_is cid ptype last len = with_size (ei_for cid ptype) cid ptype last len (ei-one-of cid ptype)
 
 module _ (left at cid ptype : ℕ) (last : Bool) where
-  pub reserved : cid < 4 → NotWritten cid_reserved ≡ header_put left at cid ptype last
+  pub reserved : cid < 4 → Err CidReserved ≡ header_put left at cid ptype last
   unfolding header_put
   reserved h = simp (lt-ltb cid 4 h)
 
   module _ (free : 4 ≤ cid) where
-    pub beyond : 15 < ptype → NotWritten value_out_of_range ≡ header_put left at cid ptype last
+    pub beyond : 15 < ptype → Err ValueOutOfRange ≡ header_put left at cid ptype last
     unfolding header_put
     beyond h = simp (le-ltb cid 4 free, lt-ltb 15 ptype h)
 
     module _ (four_bits : ptype ≤ 15) where
-      pub small : left < header_size cid ptype last → NotWritten room_too_small ≡ header_put left at cid ptype last
+      pub small : left < header_size cid ptype last → Err RoomTooSmall ≡ header_put left at cid ptype last
       unfolding header_put
       small h = simp (le-ltb cid 4 free, le-ltb 15 ptype four_bits, lt-ltb left (header_size cid ptype last) h)
 
-      pub taken : header_size cid ptype last ≤ left → Written (at + header_size cid ptype last) ≡ header_put left at cid ptype last
+      pub taken : header_size cid ptype last ≤ left → Ok (at + header_size cid ptype last) ≡ header_put left at cid ptype last
       unfolding header_put
       taken h = simp (le-ltb cid 4 free, le-ltb 15 ptype four_bits, le-ltb left (header_size cid ptype last) h)
 
@@ -89,8 +89,8 @@ some-room cid ptype last = omega arith
 -- what holds once all tests are passed, of a header that is these octets
 pub record Stored (room octets : List ℕ) (at cid ptype : ℕ) (last : Bool) (len : ℕ) : Type 0 where
   pub within : at + length octets ≤ length room
-  pub answer : Written (at + length octets) ≡ header_put (length room - at) at cid ptype last
-  pub holds : sets room at octets ≡ left_by (Written (at + length octets)) room at (shortest_header cid ptype last len)
+  pub answer : Ok (at + length octets) ≡ header_put (length room - at) at cid ptype last
+  pub holds : sets room at octets ≡ left_by (Ok (at + length octets)) room at (shortest_header cid ptype last len)
 
 module _ (room : List ℕ) (at cid ptype : ℕ) (last : Bool) (len : ℕ) (free : 4 ≤ cid) (four_bits : ptype ≤ 15)
     (here : at ≤ length room) (fits : header_size cid ptype last ≤ length room - at) where

@@ -1,10 +1,9 @@
 -- Writing headers, and joining sub-frames into a frame (document 01, "Frame and sub-frame"). "Shortest form speaks of headers
 -- alone": what is joined is a CID, a payload type and the payload's octets, whatever they mean.
-use Rattle.std.specs.Prelude.{ℕ, ◌+◌, ◌*◌, ◌/◌, ◌%◌, List, [], ◌∷◌, ◌++◌, Bool, true, false, cond, ltb, eqb, length}
-use Rattle.refusal.specs.Numbers.{cid_reserved, value_out_of_range, room_too_small}
+use Rattle.std.specs.Prelude.{ℕ, ◌+◌, ◌*◌, ◌/◌, ◌%◌, List, [], ◌∷◌, ◌++◌, Bool, true, false, cond, ltb, eqb, length, Result, Ok, Err}
 use Rattle.refusal.specs.Order.{◌gives◌, in_order}
-use Rattle.octets.specs.declared.Put.{Put}
-use Rattle.octets.specs.declared.Put.TheVariants.{Written, NotWritten}
+use Rattle.refusal.specs.declared.Refusal.{Refusal}
+use Rattle.refusal.specs.declared.Refusal.TheVariants.{CidReserved, ValueOutOfRange, RoomTooSmall}
 
 -- "Writing sets EI only when CID exceeds 63 or the type is not 0."
 abbrev pub ei_for : ℕ → ℕ → ℕ
@@ -45,12 +44,12 @@ joined (c ∷ cs) = shortest_header c.cid c.ptype (is_none cs) (length c.payload
 
 -- What writing a header at a place of lent room answers, with `left` octets from there on: the place after it, or 4, 15 for a
 -- type beyond its four bits, or 21 for the header alone.
-unfoldable pub header_put : ℕ → ℕ → ℕ → ℕ → Bool → Put
+unfoldable pub header_put : ℕ → ℕ → ℕ → ℕ → Bool → Result ℕ Refusal
 header_put left at cid ptype last =
     in_order
-    (ltb cid 4 gives cid_reserved
-    ∷ ltb 15 ptype gives value_out_of_range
-    ∷ ltb left (header_size cid ptype last) gives room_too_small
+    (ltb cid 4 gives CidReserved
+    ∷ ltb 15 ptype gives ValueOutOfRange
+    ∷ ltb left (header_size cid ptype last) gives RoomTooSmall
     ∷ [])
-    NotWritten
-    (Written (at + header_size cid ptype last))
+    Err
+    (Ok (at + header_size cid ptype last))

@@ -4,11 +4,9 @@
 ghost use Rattle.std.specs.Prelude.{◌≡◌};
 ghost use Rattle.levels.specs.Level.{level_of, code_of};
 
-// How a level is coded.
-#[derive(Clone, Copy)]
-pub enum Coded {
-    // Its magnitude.
-    Code(u8),
+// Why a level has no code of its own.
+#[derive(Clone, Copy, Debug, PartialEq, Eq)]
+pub enum Beyond {
     // It is above zero.
     Above,
     // Its magnitude is too large.
@@ -19,19 +17,20 @@ pub enum Coded {
 pub fn level_of(octet: u8) -> i8
     ensures { result ≡ level_of octet }
 {
-    0 - ((octet % 64) as i8)
+    -((octet % 64) as i8)
 }
 
 // A level negated, where its magnitude is at most the largest that the octet carries.
-pub fn code_of(level: i8, most: u8) -> Coded
+pub fn code_of(level: i8, most: u8) -> Result<u8, Beyond>
     ensures { result ≡ code_of most level }
 {
     if 0 < level {
-        return Coded::Above;
+        return Err(Beyond::Above);
     }
-    let magnitude = (0 - (level as i16)) as u8;
+    let magnitude = level.unsigned_abs();
     if magnitude <= most {
-        return Coded::Code(magnitude);
+        Ok(magnitude)
+    } else {
+        Err(Beyond::Below)
     }
-    Coded::Below
 }

@@ -33,11 +33,9 @@ fn list_piece(
     requires most_listed_in_bounds { most_listed ≤ length out.old }
     ensures { piece.from < piece.to → piece.from < result.at }
 {
-    let from = piece.from;
-    let to = piece.to;
-    let listed = listing::stream::list_piece(&input[from..to], begun, kept, table, out);
+    let listed = listing::stream::list_piece(&input[piece.from..piece.to], begun, kept, table, out);
     Stands {
-        at: from + listed.taken,
+        at: piece.from + listed.taken,
         have: listed.have,
         number: listed.number,
         well: streaming::output::print(rt, b"list", out, listed.used),
@@ -70,10 +68,8 @@ fn list_all(
 {
     let mut left = first;
     let mut begun = Begun { have: 0, number: 0 };
-    // An end that no run reaches.
-    let mut turns = u64::MAX;
-    while 0 < turns {
-        turns -= 1;
+    // To an end that no run reaches.
+    for _ in 0..u64::MAX {
         let piece = streaming::input::next(reader, input, left);
         if piece.from == piece.to {
             finish(rt, begun, kept, table, out);
@@ -99,15 +95,14 @@ fn main(rt: HostRuntime) {
     let mut input = [0u8; 65536];
     let mut table = [0u16; 256];
     let start = streaming::input::begin(&rt, &mut reader, b"list", &mut input, &mut table);
-    if start.taken {
+    if start.text.is_ok() {
         let mut kept = [0u8; MOST_KEPT];
         let mut out = [0u8; 65536];
-        let behind = start.behind;
         list_all(
             &rt,
             &mut reader,
             &mut input,
-            behind,
+            start.behind,
             &mut kept,
             &table,
             &mut out,

@@ -1,21 +1,25 @@
--- The loop of `list_piece`, and a last line.
+-- The loop of `list_piece`, over what is left of the piece, and a last line.
 use Prim.Native.Nat.{ℕ, ◌+◌, ◌-◌, ◌<◌, ◌≤◌, min}
 use mathlib.Core.Path.{◌≡◌, refl, sym, ap, ◌∙◌}
 use mathlib.Core.List.{List, []}
 use mathlib.Core.Bool.{Bool, true, false, cond}
 use native.Mathlib.Omega.{arith}
-use lib.Dec.{ltb}
-use lib.ListN.{length, take, drop}
-use Rattle.refusal.specs.Numbers.{room_too_small}
-use Rattle.octets.specs.declared.Put.{Put}
-use Rattle.octets.specs.declared.Put.TheVariants.{Written, NotWritten}
+use borrow.Author.Tests.{eqb-true, eqb-false}
+use lib.Dec.{ltb, eqb}
+use lib.ListN.{length, take, drop, length-drop}
+use lib.Seq.{drop-drop}
+use Rattle.std.specs.Result.{result_unwrap_or}
+use Rattle.std.specs.declared.result.Result.{Result}
+use Rattle.std.specs.declared.result.Result.TheVariants.{Ok, Err}
+use Rattle.std.specs.declared.option.Option.TheVariants.{Some, None}
+use Rattle.refusal.specs.declared.Refusal.{Refusal}
+use Rattle.refusal.specs.declared.Refusal.TheVariants.{RoomTooSmall}
 use Rattle.octets.specs.Room.{written, left_by}
 use Rattle.octets.specs.Text.{has_lf}
 use Rattle.recording.specs.declared.stream.Begun.{Begun}
 use Rattle.recording.specs.declared.stream.Taken.{Taken}
 use Rattle.hexline.specs.Line.{octets, line_read, in_room, read_of, octets_of}
-use Rattle.recording.specs.Stream.{line_of, held_by, kept_behind}
-use Rattle.recording.specs.Stream.{taken as line_taken}
+use Rattle.recording.specs.Stream.{line_of, held_by, kept_behind, taken as line_taken}
 use Rattle.recording.specs.Walk.{Told, Walk, nothing, next_told}
 use Rattle.recording.proofs.Ends as ends
 use Rattle.octets.proofs.Writes as writes
@@ -23,9 +27,9 @@ use Rattle.recording.proofs.Keeping as keeping
 use Rattle.recording.proofs.Walks as walks
 use Rattle.listing.specs.declared.stream.Listed.{Listed}
 use Rattle.listing.specs.Listing.{line_listing, tell_line, listed}
-use Rattle.listing.specs.Stream.{answer, last_listed}
+use Rattle.listing.specs.Stream.{answer, piece_listed, last_listed}
 use Rattle.printing.specs.Room.{Appended}
-use Rattle.listing.specs.Private.{listing_of}
+use Rattle.listing.specs.Private.{taken_listing}
 use Rattle.listing.proofs.Listings as listings
 
 -- a line that is taken, by what is told of it
@@ -33,8 +37,9 @@ module _ (frame table : List ℕ) (begun : Begun) (kept piece : List ℕ) where
   text-is :
       (t : Bool)
       → 1600 ≤ length frame
-      → cond t (listing_of begun.number table (read_of (cond t (in_room (length frame) (line_read (line_of begun.have kept piece))) (octets [])))
-      (written frame 0 (octets_of (cond t (in_room (length frame) (line_read (line_of begun.have kept piece))) (octets []))))) []
+      → taken_listing begun.number table
+      (cond t (Some (read_of (cond t (in_room (length frame) (line_read (line_of begun.have kept piece))) (octets [])))) None)
+      (written frame 0 (octets_of (cond t (in_room (length frame) (line_read (line_of begun.have kept piece))) (octets []))))
       ≡ (cond t (tell_line table begun.number (line_of begun.have kept piece) tt) (nothing tt)).text
   text-is true room = listings.of-line begun.number table frame (line_of begun.have kept piece) room refl refl
   text-is false room = refl
@@ -44,70 +49,92 @@ module _ (frame table : List ℕ) (begun : Begun) (kept piece : List ℕ) where
       → line ≡ line_taken (length frame) begun kept piece
       → 1600 ≤ length frame
       → after ≡ written frame 0 (octets_of (held_by (length frame) begun.have kept piece))
-      → cond line.whole (listing_of begun.number table line.read after) [] ≡ (next_told (tell_line table) begun kept tt piece).text
+      → taken_listing begun.number table line.line after ≡ (next_told (tell_line table) begun kept tt piece).text
   listing-is line is room holds = rw (is, holds) (text-is (has_lf piece) room)
 
--- after `at` octets of the piece
-abbrev pub Going : List ℕ → List ℕ → List ℕ → Walk (Unit {0}) → List ℕ → List ℕ → Begun → ℕ → ℕ → Type 0
-Going table out₀ piece whole kept out begun used at = walks.Going (tell_line table) 6709 out₀ piece whole kept out begun tt used at
-
--- one line more, from what `take_line` and `put_taken` answer
-pub turn :
-    (table : List ℕ) {out₀ piece : List ℕ} {whole : Walk (Unit {0})} {kept out : List ℕ} {begun : Begun} {used at : ℕ}
-    → (going : Going table out₀ piece whole kept out begun used at)
-    → (there : at < length piece)
-    → (frame : List ℕ) (line : Taken) {now frame' after : List ℕ} {used' : ℕ}
-    → (is : line ≡ line_taken (length frame) begun kept (take (length piece - at) (drop at piece)))
-    → 1600 ≤ length frame
-    → 6709 ≤ length out - used
-    → now ≡ kept_behind begun.have kept (take (length piece - at) (drop at piece))
-    → frame' ≡ written frame 0 (octets_of (held_by (length frame) begun.have kept (take (length piece - at) (drop at piece))))
-    → Appended out used (cond line.whole (listing_of begun.number table line.read frame') []) 6709 after used'
-    → Going table out₀ piece whole now after line.next used' (at + line.size)
-turn table {out₀} {piece} {whole} {kept} {out} {begun} {used} {at} going there frame line is large fits keeps holds put =
-    let tells = walks.tells (tell_line table) 6709 going there frame line is in
-    let text = listing-is frame table begun kept (drop at piece) line tells large (rw (ends.rest-is piece at) at holds) in
-    walks.turn (tell_line table) 6709 going there frame line is fits keeps text refl put.ends put.holds put.size
-
--- what the code of the listing promises, from what it promises of any walk
+-- what the code of the listing promises of a walk
 abbrev pub Promised : List ℕ → Walk (Unit {0}) → Listed → List ℕ → List ℕ → Type 0
 Promised out₀ whole r kept out = (r ≡ answer whole) × ((kept ≡ whole.kept) × (out ≡ written out₀ 0 whole.text))
 
-pub promised :
-    {out₀ kept out : List ℕ} {whole : Walk (Unit {0})} {taken used : ℕ} {begun : Begun} {state : Unit {0}}
-    → walks.Promised out₀ whole taken used begun state kept out
-    → Promised out₀ whole (record { taken = taken; used = used; have = begun.have; number = begun.number }) kept out
-promised {out₀} {kept} {out} {whole} {taken} {used} {begun} p =
-    let takes : taken ≡ whole.taken = p.takes in
-    let prints : used ≡ length whole.text = p.prints in
-    let h : begun.have ≡ whole.next.have = ap (λ (b : Begun). b.have) p.next in
-    let n : begun.number ≡ whole.next.number = ap (λ (b : Begun). b.number) p.next in
-    (cc, (p.keeps, p.holds))
+-- what is left of the piece, and how the walk stands
+pub record Going (table out₀ piece : List ℕ) (whole : Walk (Unit {0})) (kept out : List ℕ) (begun : Begun) (used : ℕ) (rest : List ℕ) : Type 0 where
+  pub at : ℕ
+  pub left : rest ≡ drop at piece
+  pub stands : walks.Going (tell_line table) 6709 out₀ piece whole kept out begun tt used at
 
--- a text that is written where the room is there
-module _ (out text : List ℕ) where
-  abbrev Stands : Bool → ℕ → List ℕ → Type 0
-  Stands short used after = (used ≡ length (cond short [] text)) × (after ≡ written out 0 (cond short [] text))
+pub begins :
+    (table out piece kept : List ℕ) (begun : Begun)
+    → Going table out piece (piece_listed (length out) table begun kept piece) kept out begun 0 piece
+begins table out piece kept begun = record { at = 0; left = refl; stands = walks.begins (tell_line table) 6709 out piece kept begun tt }
 
-  is-written :
-      (short : Bool) {r : Put} {after : List ℕ} {next : ℕ}
-      → r ≡ cond short (NotWritten room_too_small) (Written (0 + length text))
-      → after ≡ left_by r out 0 text
-      → r ≡ Written next
-      → Stands short next after
-  is-written true says holds e = let z : ◌≡◌ {A = ℕ} 0 1 = cc in absurd (omega arith)
-  is-written false {r} {after} {next} says holds e =
-      let size : next ≡ 0 + length text = cc in
-      (omega arith, holds ∙ ap (λ (a : Put). left_by a out 0 text) e)
+module _ {table out₀ piece : List ℕ} {whole : Walk (Unit {0})} {kept out : List ℕ} {begun : Begun} {used : ℕ} {rest : List ℕ}
+    (going : Going table out₀ piece whole kept out begun used rest) where
+  size : length rest ≡ length piece - going.at
+  size = ap length going.left ∙ length-drop going.at piece
 
-  not_written :
-      (short : Bool) {r : Put} {after : List ℕ} {number : ℕ}
-      → r ≡ cond short (NotWritten room_too_small) (Written (0 + length text))
-      → after ≡ left_by r out 0 text
-      → r ≡ NotWritten number
-      → Stands short 0 after
-  not_written true says holds e = (refl, holds ∙ ap (λ (a : Put). left_by a out 0 text) e ∙ sym (writes.written_none out 0))
-  not_written false says holds e = let z : ◌≡◌ {A = ℕ} 0 1 = cc in absurd (omega arith)
+  abbrev pub Ends : Type 0
+  Ends = Promised out₀ whole (record { taken = length piece - length rest; used = used; have = begun.have; number = begun.number }) kept out
+
+  promised : walks.Promised out₀ whole going.at used begun tt kept out → Ends
+  promised p =
+      let takes : length piece - length rest ≡ whole.taken = omega (arith, p.takes, size, going.stands.within) in
+      let prints : used ≡ length whole.text = p.prints in
+      let h : begun.have ≡ whole.next.have = ap (λ (b : Begun). b.have) p.next in
+      let n : begun.number ≡ whole.next.number = ap (λ (b : Begun). b.number) p.next in
+      (cc, (p.keeps, p.holds))
+
+  pub all : eqb (length rest) 0 ≡ true → Ends
+  all none = let nothing = eqb-true (length rest) 0 none in promised (walks.all (tell_line table) 6709 going.stands (omega (arith, size)))
+
+  module _ (more : eqb (length rest) 0 ≡ false) where
+    there : going.at < length piece
+    there = let some = eqb-false (length rest) 0 more in omega (arith, size)
+
+    pub short : length out - used < 6709 → Ends
+    short h = promised (walks.short (tell_line table) 6709 going.stands there h)
+
+    -- one line more, from what `take_line` and `put_taken` answer
+    module _ (frame : List ℕ) (line : Taken) (is : line ≡ line_taken (length frame) begun kept rest) where
+      as-part : rest ≡ take (length piece - going.at) (drop going.at piece)
+      as-part = going.left ∙ sym (ends.rest-is piece going.at)
+
+      is-there : line ≡ line_taken (length frame) begun kept (take (length piece - going.at) (drop going.at piece))
+      is-there = rw (← as-part) is
+
+      pub part : line.size ≤ length rest
+      part = omega (arith, walks.within (tell_line table) 6709 going.stands there frame line is-there, size)
+
+      pub shorter : length (take (length rest - line.size) (drop line.size rest)) < length rest
+      shorter =
+          let some = walks.some-taken (tell_line table) 6709 going.stands there frame line is-there in
+          rw (ends.rest-is rest line.size) (omega (arith, part, length-drop line.size rest))
+
+      pub turn :
+          {now frame' after : List ℕ} {used' : ℕ}
+          → 1600 ≤ length frame
+          → 6709 ≤ length out - used
+          → now ≡ kept_behind begun.have kept rest
+          → frame' ≡ written frame 0 (octets_of (held_by (length frame) begun.have kept rest))
+          → Appended out used (taken_listing begun.number table line.line frame') 6709 after used'
+          → Going table out₀ piece whole now after line.next used' (take (length rest - line.size) (drop line.size rest))
+      turn large room keeps holds put =
+          let text = listing-is frame table begun kept rest line is large holds in
+          record {
+            at = going.at + line.size;
+            left = ends.rest-is rest line.size ∙ rw going.left (drop-drop line.size going.at piece);
+            stands =
+                walks.turn (tell_line table) 6709 going.stands there frame line is-there room (rw (← as-part) keeps) (rw going.left at text) refl put.ends put.holds
+                put.size;
+          }
+
+-- a text that is put where the room is there
+put_there :
+    (out text : List ℕ) (short : Bool) {r : Result ℕ Refusal} {after : List ℕ}
+    → r ≡ cond short (Err RoomTooSmall) (Ok (0 + length text))
+    → after ≡ left_by r out 0 text
+    → (result_unwrap_or r 0 ≡ length (cond short [] text)) × (after ≡ written out 0 (cond short [] text))
+put_there out text true says holds = (rw says refl, rw says at holds ∙ sym (writes.written_none out 0))
+put_there out text false says holds = (rw says (omega arith), rw says at holds)
 
 -- the last line, from what `list_line` answers
 module _ (table : List ℕ) (begun : Begun) (kept out : List ℕ) where
@@ -122,23 +149,15 @@ module _ (table : List ℕ) (begun : Begun) (kept out : List ℕ) where
       in
       rw text (refl, sym (writes.written_none out 0))
 
-  module _ (some : begun.have ≡ 0 → ⊥) {end : ℕ} (cut : end ≡ min begun.have (length kept)) {r : Put} {after : List ℕ}
-      (says : r ≡ listed out 0 (line_listing begun.number table (take end kept)))
-      (holds : after ≡ left_by r out 0 (line_listing begun.number table (take end kept))) where
-    same : take end kept ≡ take begun.have kept
-    same = ap (λ (k : ℕ). take k kept) cut ∙ keeping.take-least begun.have kept
-
-    text-is-told : last_listed (length out) table begun kept ≡ cond (ltb (length out) 6709) [] (line_listing begun.number table (take begun.have kept))
-    text-is-told = walks.last-text (tell_line table) 6709 (length out) begun kept tt some
-
-    pub last-listed : {next : ℕ} → r ≡ Written next → LastPromised next after
-    unfolding listed
-    last-listed e =
-        rw text-is-told
-        (is-written out (line_listing begun.number table (take begun.have kept)) (ltb (length out) 6709) (rw same at says) (rw same at holds) e)
-
-    pub no_room : {number : ℕ} → r ≡ NotWritten number → LastPromised 0 after
-    unfolding listed
-    no_room e =
-        rw text-is-told
-        (not_written out (line_listing begun.number table (take begun.have kept)) (ltb (length out) 6709) (rw same at says) (rw same at holds) e)
+  pub kept-listed :
+      (begun.have ≡ 0 → ⊥)
+      → {end : ℕ} {r : Result ℕ Refusal} {after : List ℕ}
+      → end ≡ min begun.have (length kept)
+      → r ≡ listed out 0 (line_listing begun.number table (take end kept))
+      → after ≡ left_by r out 0 (line_listing begun.number table (take end kept))
+      → LastPromised (result_unwrap_or r 0) after
+  unfolding listed
+  kept-listed some {end} cut says holds =
+      let same : take end kept ≡ take begun.have kept = ap (λ (k : ℕ). take k kept) cut ∙ keeping.take-least begun.have kept in
+      rw (walks.last-text (tell_line table) 6709 (length out) begun kept tt some)
+      (put_there out (line_listing begun.number table (take begun.have kept)) (ltb (length out) 6709) (rw same at says) (rw same at holds))

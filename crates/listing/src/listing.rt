@@ -1,5 +1,5 @@
 // The listing of a line (document 01, "Listing program").
-ghost use Rattle.std.specs.Prelude.{◌≡◌, ◌+◌, ◌≤◌, length};
+ghost use Rattle.std.specs.Prelude.{◌≡◌, ◌+◌, ◌≤◌, length, IfOk};
 ghost use Rattle.octets.specs.Room.{left_by};
 ghost use Rattle.header.specs.Header.{end_of};
 ghost use Rattle.frame.specs.Opening.{opening};
@@ -8,10 +8,9 @@ ghost use Rattle.listing.specs.Private.{listing_of};
 ghost use Rattle.printing.specs.Room.{Appended};
 
 use header::SubFrame;
-use hexline::Read;
-use octets::Put;
 use printing::field::{put_field, put_octet_field};
 use printing::refused::put_refused;
+use refusal::Refusal;
 
 // The room that is asked for a listing: 27 octets for `frame=`, 26 for `subs=`, 104 for each of 64 sub-frames.
 pub const MOST_LISTED: usize = 6709;
@@ -33,10 +32,12 @@ fn put_sub(out: &mut [u8], at: usize, table: &[u16; 256], frame: &[u8], sub: Sub
     requires frame_len_bound { length frame.now ≤ 1600 }
     ensures { Appended out.old at (sub_listing table.now frame.now sub) 104 out.new result }
 {
-    let start = sub.start;
-    let end = start + sub.len;
+    let end = sub.start + sub.len;
     let found = record::table::record_of(table, sub.cid);
-    let number = payload::check::check_payload(found, sub.ptype, &frame[start..end]);
+    let number = match payload::check::check_payload(found, sub.ptype, &frame[sub.start..end]) {
+        Ok(()) => refusal::SOUND,
+        Err(refusal) => refusal.number(),
+    };
     put_four(out, at, sub.cid, sub.ptype, sub.len, number)
 }
 
@@ -49,12 +50,10 @@ fn put_subs(out: &mut [u8], at: usize, table: &[u16; 256], frame: &[u8], count: 
 {
     let mut next = at;
     let mut place: usize = 0;
-    let mut i: usize = 0;
-    while i < count {
+    for _ in 0..count {
         let sub = header::sub_at(frame, place);
         next = put_sub(out, next, table, frame, sub);
         place = sub.start + sub.len;
-        i += 1;
     }
     next
 }
@@ -65,15 +64,14 @@ fn put_frame(out: &mut [u8], at: usize, n: u64, table: &[u16; 256], frame: &[u8]
     requires frame_len_bound { length frame.now ≤ 1600 }
     ensures { Appended out.old at (frame_listing n table.now frame.now) 6709 out.new result }
 {
-    let checked = frame::check(frame);
-    let number = checked.number;
-    if number == refusal::SOUND {
-        let past_frame = put_field(out, at, b"frame=", n);
-        let count = checked.count;
-        let past_subs = put_field(out, past_frame, b"subs=", count as u64);
-        return put_subs(out, past_subs, table, frame, count);
+    match frame::check(frame) {
+        Ok(checked) => {
+            let past_frame = put_field(out, at, b"frame=", n);
+            let past_subs = put_field(out, past_frame, b"subs=", checked.count as u64);
+            put_subs(out, past_subs, table, frame, checked.count)
+        }
+        Err(refused) => put_refused(out, at, n, refused.refusal.number(), refused.at),
     }
-    put_refused(out, at, n, number, checked.at)
 }
 
 // What a line holds, whose octets stand at the start of `frame`, as the frame number n.
@@ -82,31 +80,35 @@ pub(crate) fn put_read(
     at: usize,
     n: u64,
     table: &[u16; 256],
-    read: Read,
+    read: Result<usize, Refusal>,
     frame: &[u8],
 ) -> usize
     requires at_in_bounds { at + 6709 ≤ length out.old }
-    requires octets_in_bounds { read.octets ≤ length frame.now }
+    requires octets_in_bounds { IfOk read (λ size. size ≤ length frame.now) }
     requires frame_len_bound { length frame.now ≤ 1600 }
     ensures { Appended out.old at (listing_of n table.now read frame.now) 6709 out.new result }
 {
-    let number = read.number;
-    if number == refusal::SOUND {
-        let size = read.octets;
-        return put_frame(out, at, n, table, &frame[..size]);
+    match read {
+        Ok(size) => put_frame(out, at, n, table, &frame[..size]),
+        Err(refusal) => put_refused(out, at, n, refusal.number(), 0),
     }
-    put_refused(out, at, n, number, 0)
 }
 
 // Lists a line, with its LF where that is there, as the frame number n, into room from a place on.
-pub(crate) fn list_line(out: &mut [u8], at: usize, n: u64, table: &[u16; 256], line: &[u8]) -> Put
+pub(crate) fn list_line(
+    out: &mut [u8],
+    at: usize,
+    n: u64,
+    table: &[u16; 256],
+    line: &[u8],
+) -> Result<usize, Refusal>
     ensures answer { result ≡ listed out.old at (line_listing n table.now line.now) }
     ensures holds { out.new ≡ left_by result out.old at (line_listing n table.now line.now) }
 {
     if octets::exceeds(out.len(), at, MOST_LISTED) {
-        return Put::NotWritten(refusal::ROOM_TOO_SMALL);
+        return Err(Refusal::RoomTooSmall);
     }
     let mut frame = [0u8; 1600];
     let read = hexline::read_line(line, &mut frame);
-    Put::Written(put_read(out, at, n, table, read, &frame))
+    Ok(put_read(out, at, n, table, read, &frame))
 }

@@ -1,13 +1,13 @@
 // A recording listed piece by piece, in fixed memory (document 01, "Listing program").
-ghost use Rattle.std.specs.Prelude.{◌≡◌, [], cond, ◌+◌, ◌≤◌, length};
+ghost use Rattle.std.specs.Prelude.{◌≡◌, ◌+◌, ◌≤◌, length, IfSome, IfOk};
 ghost use Rattle.octets.specs.Room.{written};
-ghost use Rattle.listing.specs.Private.{listing_of};
+ghost use Rattle.listing.specs.Private.{taken_listing};
 ghost use Rattle.listing.specs.Stream.{piece_listed, answer, last_listed};
 ghost use Rattle.printing.specs.Room.{Appended};
 
 use crate::listing::MOST_LISTED;
-use octets::Put;
-use recording::stream::{Begun, MOST_KEPT, Taken};
+use recording::stream::{Begun, MOST_KEPT};
+use refusal::Refusal;
 
 // What listing a piece does: the octets taken of it, the octets listed, and how it stands then.
 #[derive(Clone, Copy)]
@@ -24,19 +24,18 @@ fn put_taken(
     at: usize,
     n: u64,
     table: &[u16; 256],
-    line: Taken,
+    line: Option<Result<usize, Refusal>>,
     frame: &[u8],
 ) -> usize
     requires at_in_bounds { at + 6709 ≤ length out.old }
-    requires octets_in_bounds { line.read.octets ≤ length frame.now }
+    requires octets_in_bounds { IfSome line (λ read. IfOk read (λ size. size ≤ length frame.now)) }
     requires frame_len_bound { length frame.now ≤ 1600 }
-    ensures { Appended out.old at (cond line.whole (listing_of n table.now line.read frame.now) []) 6709 out.new result }
+    ensures { Appended out.old at (taken_listing n table.now line frame.now) 6709 out.new result }
 {
-    if line.whole {
-        let read = line.read;
-        return crate::listing::put_read(out, at, n, table, read, frame);
+    match line {
+        Some(read) => crate::listing::put_read(out, at, n, table, read, frame),
+        None => at,
     }
-    at
 }
 
 // Lists the lines of a piece, to its end or to where the room for a listing runs short. What it has of a line that goes on is
@@ -54,25 +53,16 @@ pub fn list_piece(
 {
     let mut stands = begun;
     let mut used: usize = 0;
-    let mut at: usize = 0;
+    let mut rest = piece;
     let mut frame = [0u8; 1600];
-    while at < piece.len() {
-        if out.len() - used < MOST_LISTED {
-            return Listed {
-                taken: at,
-                used,
-                have: stands.have,
-                number: stands.number,
-            };
-        }
-        let line = recording::stream::take_line(&piece[at..], stands, kept, &mut frame);
-        used = put_taken(out, used, stands.number, table, line, &frame);
-        at += line.size;
-        let next = line.next;
-        stands = next;
+    while !rest.is_empty() && MOST_LISTED <= out.len() - used {
+        let taken = recording::stream::take_line(rest, stands, kept, &mut frame);
+        used = put_taken(out, used, stands.number, table, taken.line, &frame);
+        rest = &rest[taken.size..];
+        stands = taken.next;
     }
     Listed {
-        taken: at,
+        taken: piece.len() - rest.len(),
         used,
         have: stands.have,
         number: stands.number,
@@ -84,14 +74,10 @@ pub fn list_last(begun: Begun, kept: &[u8; MOST_KEPT], table: &[u16; 256], out: 
     ensures says { result ≡ length (last_listed (length out.old) table.now begun kept.now) }
     ensures holds { out.new ≡ written out.old 0 (last_listed (length out.old) table.now begun kept.now) }
 {
-    let have = begun.have;
-    if have == 0 {
+    if begun.have == 0 {
         return 0;
     }
     let room: &[u8] = kept;
-    let end = octets::least(have, room.len());
-    match crate::listing::list_line(out, 0, begun.number, table, &room[..end]) {
-        Put::Written(next) => next,
-        Put::NotWritten(_) => 0,
-    }
+    let end = octets::least(begun.have, room.len());
+    crate::listing::list_line(out, 0, begun.number, table, &room[..end]).unwrap_or(0)
 }

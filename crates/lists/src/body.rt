@@ -41,14 +41,9 @@ pub fn rest(octets: &[u8], start: usize) -> &[u8] {
 pub fn fill(room: &mut [u8], body: Body) {
     let mut state = body.seed;
     let mut octet = body.first;
-    let mut i: usize = 0;
-    while i < room.len() {
-        if body.len <= i {
-            return;
-        }
-        room[i] = octet;
+    for place in room.iter_mut().take(body.len) {
+        *place = octet;
         octet = crate::draws::octet(&mut state) & body.mask;
-        i += 1;
     }
 }
 
@@ -61,9 +56,5 @@ pub fn filled(body: Body) -> [u8; 1600] {
 
 // Whether octets are those of a body.
 pub fn same(octets: &[u8], body: Body) -> bool {
-    if octets.len() != body.len {
-        return false;
-    }
-    let room = filled(body);
-    octets::text::starts(octets, front(&room, body.len))
+    octets == front(&filled(body), body.len)
 }

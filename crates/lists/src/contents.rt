@@ -5,7 +5,7 @@ use crate::body::Body;
 use crate::draws;
 use counts::{DataCount, DigitCount, SignallingCount, VoiceCount};
 use digits::layout::{Digits, Window};
-use fax::{Command, Stamp};
+use fax::Command;
 use record::syntax::{Record, Syntax};
 use sid::Sid;
 
@@ -27,7 +27,7 @@ pub struct Fragment {
 #[derive(Clone, Copy)]
 pub struct Relay {
     pub sequence: u8,
-    pub stamp: Stamp,
+    pub stamp: Option<u16>,
     pub command: Command,
     pub body: Body,
 }
@@ -41,7 +41,7 @@ pub struct Seizure {
 
 // The octets of a block: for pcm and g727 those of Annexes F and G by the coding type.
 fn block(syntax: Syntax, coding: u8) -> u8 {
-    let at = coding as usize;
+    let at = usize::from(coding);
     match syntax {
         Syntax::Acelp => 10,
         Syntax::Pcm => octets::octet(
@@ -53,9 +53,7 @@ fn block(syntax: Syntax, coding: u8) -> u8 {
             at,
         ),
         Syntax::G728 => 10,
-        Syntax::G7231 => 0,
-        Syntax::Data => 0,
-        Syntax::Fax => 0,
+        Syntax::G7231 | Syntax::Data | Syntax::Fax => 0,
     }
 }
 
@@ -84,18 +82,16 @@ fn g7231(state: u64) -> Body {
 }
 
 fn blocks(rec: Record, coding: u8, state: u64) -> Body {
-    let syntax = rec.syntax;
-    crate::body::drawn(times(rec.m, block(syntax, coding)), state)
+    crate::body::drawn(times(rec.m, block(rec.syntax, coding)), state)
 }
 
 // Speech of a record: with seq=0 there is no octet for a sequence.
 pub fn draw_speech(rec: Record, seed: u64) -> Speech {
     let mut at = seed;
-    let syntax = rec.syntax;
-    let coding = draws::below(&mut at, voice::coding_count(syntax));
+    let coding = draws::below(&mut at, voice::coding_count(rec.syntax));
     let drawn = draws::below(&mut at, 16);
     let sequence = VoiceCount(if rec.seq { drawn } else { 0 });
-    let body = match syntax {
+    let body = match rec.syntax {
         Syntax::G7231 => g7231(at),
         _ => blocks(rec, coding, at),
     };
@@ -177,8 +173,7 @@ pub fn draw_silence(syntax: Syntax, seed: u64) -> Sid {
     let sequence = VoiceCount(draws::below(&mut at, 16));
     let level = levels::level_of(draws::below(&mut at, 64));
     match syntax {
-        Syntax::Pcm => Sid::Noise { sequence, level },
-        Syntax::G727 => Sid::Noise { sequence, level },
+        Syntax::Pcm | Syntax::G727 => Sid::Noise { sequence, level },
         _ => Sid::Plain,
     }
 }
@@ -213,29 +208,24 @@ fn data_octets(command: Command, state: &mut u64) -> usize {
             let at = draws::below(state, 7) as usize;
             wide(octets::octet(&[3, 12, 24, 36, 48, 60, 72], at))
         }
-        Command::EndOfFrame => 3,
-        Command::Abort => 3,
+        Command::EndOfFrame | Command::Abort => 3,
         _ => 0,
     }
 }
 
 fn may_lack_stamp(command: Command) -> bool {
-    match command {
-        Command::Page => true,
-        Command::EndOfFrame => true,
-        Command::Abort => true,
-        _ => false,
-    }
+    matches!(
+        command,
+        Command::Page | Command::EndOfFrame | Command::Abort
+    )
 }
 
-fn stamp(command: Command, state: &mut u64) -> Stamp {
+fn stamp(command: Command, state: &mut u64) -> Option<u16> {
     let number = draws::number(state);
-    if draws::flag(state) {
-        if may_lack_stamp(command) {
-            return Stamp::NoStamp;
-        }
+    if draws::flag(state) && may_lack_stamp(command) {
+        return None;
     }
-    Stamp::Stamped(number)
+    Some(number)
 }
 
 pub fn draw_relay(seed: u64) -> Relay {

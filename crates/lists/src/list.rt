@@ -1,8 +1,8 @@
 // Legal lists, drawn from a seed. Writing and reading back draw the same list, each by itself.
 use crate::draws;
-use payload::layout::{Kind, TypeFor};
+use payload::layout::Kind;
 use record::syntax::{Record, Syntax};
-use record::table::Found;
+use refusal::Refusal;
 
 const MOST_OCTETS: usize = 1600;
 
@@ -14,7 +14,7 @@ const MOST_NOT_LAST: usize = 255;
 // A list goes on where its payloads end no later: the longest payload, of 481 octets, still has its place there.
 const ROOMY: usize = 1100;
 
-#[derive(Clone, Copy)]
+#[derive(Clone, Copy, PartialEq, Eq)]
 pub enum Shape {
     // One to twelve sub-frames of every kind.
     Short,
@@ -84,42 +84,29 @@ fn short_kind(state: &mut u64) -> Kind {
     }
 }
 
-// The type that a sub-channel has for a kind, and 16 where it takes none.
-pub fn type_on(table: &[u16; 256], cid: u8, kind: Kind) -> u8 {
-    match payload::layout::type_for(record::table::record_of(table, cid), kind) {
-        TypeFor::Typed(ptype) => ptype,
-        TypeFor::NoType(_) => 16,
-    }
+// The type that a sub-channel has for a kind.
+pub fn type_on(table: &[u16; 256], cid: u8, kind: Kind) -> Result<u8, Refusal> {
+    payload::layout::type_for(record::table::record_of(table, cid), kind)
 }
 
 // The first CID from this one on, round 255, that takes the kind.
 fn taking(table: &[u16; 256], from: u8, kind: Kind) -> u8 {
-    let mut cid = from;
-    let mut left: usize = 256;
-    while 0 < left {
-        if type_on(table, cid, kind) < 16 {
+    for i in 0..=255u8 {
+        let cid = from.wrapping_add(i);
+        if type_on(table, cid, kind).is_ok() {
             return cid;
         }
-        cid = std::num::wrapping_add_u8(cid, 1);
-        left -= 1;
     }
-    cid
+    from
 }
 
 // The record of a sub-channel that is provisioned.
 pub fn record_on(table: &[u16; 256], cid: u8) -> Record {
-    match record::table::record_of(table, cid) {
-        Found::Provisioned(rec) => rec,
-        Found::Unprovisioned => Record {
-            syntax: Syntax::Acelp,
-            m: 1,
-            seq: false,
-        },
-    }
-}
-
-fn less(from: usize, by: usize) -> usize {
-    if from < by { 0 } else { from - by }
+    record::table::record_of(table, cid).unwrap_or(Record {
+        syntax: Syntax::Acelp,
+        m: 1,
+        seq: false,
+    })
 }
 
 // The payload's octets; of fax, digits, signalling and silence no fewer.
@@ -127,24 +114,16 @@ fn size(rec: Record, kind: Kind, len: usize, seed: u64) -> usize {
     match kind {
         Kind::AVoice => {
             let speech = crate::contents::draw_speech(rec, seed);
-            let front: usize = if rec.seq { 1 } else { 0 };
-            let body = speech.body;
-            std::num::wrapping_add_usize(front, body.len)
+            speech.body.len.wrapping_add(usize::from(rec.seq))
         }
-        Kind::AData => std::num::wrapping_add_usize(2, len),
+        Kind::AData => len.wrapping_add(2),
         _ => 75,
     }
 }
 
 // Whether a list of so many more ends with a payload of so many octets.
 fn ends(left: usize, at: usize, size: usize) -> bool {
-    if left <= 1 {
-        return true;
-    }
-    if MOST_NOT_LAST < size {
-        return true;
-    }
-    less(ROOMY, at) < size
+    left <= 1 || MOST_NOT_LAST < size || ROOMY.saturating_sub(at) < size
 }
 
 // A data fragment from this place to the end of the frame; its header and its own first two octets stand in front.
@@ -155,7 +134,7 @@ fn filling(table: &[u16; 256], at: usize, seed: u64) -> Given {
     Given {
         cid,
         kind: Kind::AData,
-        len: less(less(MOST_OCTETS, at), front),
+        len: MOST_OCTETS.saturating_sub(at).saturating_sub(front),
         seed: state,
         last: true,
     }
@@ -183,10 +162,8 @@ pub fn given_at(table: &[u16; 256], shape: Shape, left: usize, at: usize, seed: 
         _ => any_kind(&mut state),
     };
     let given = drawn_at(table, kind, left, at, state);
-    if given.last {
-        if let Shape::Filled = shape {
-            return filling(table, at, state);
-        }
+    if given.last && shape == Shape::Filled {
+        return filling(table, at, state);
     }
     given
 }

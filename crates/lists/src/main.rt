@@ -25,11 +25,9 @@ fn main(rt: HostRuntime) {
     let mut table = [0u16; 256];
     provision(&rt, &mut rt.stdin(), &mut table);
     let mut seed = FIRST_SEED;
-    let mut number: u64 = 0;
-    while number < LISTS {
+    for number in 0..LISTS {
         one(&rt, &table, list::list_of(number, seed));
         seed = draws::far_seed(seed);
-        number += 1;
     }
 }
 
@@ -38,7 +36,7 @@ fn provision(rt: &impl Print, reader: &mut impl Read, table: &mut [u16; 256]) {
     let mut input = [0u8; 65536];
     let n = streaming::input::read_full(reader, &mut input);
     let _ = rt.write_all(&input[..n]);
-    provisioning::text::read_text(&input[..n], table);
+    let _ = provisioning::text::read_text(&input[..n], table);
 }
 
 // Writes one list into a lent frame, prints the frame, and reads it back.
@@ -47,8 +45,7 @@ fn one(rt: &impl Print, table: &[u16; 256], list: list::List) {
     let written = writes::write_list(&mut room, table, list);
     let frame = body::front(&room, written);
     console::print::octets(rt, b"frame=", frame);
-    let differs = reads::first_differing(frame, table, list);
-    if 0 < differs {
+    if let Some(differs) = reads::first_differing(frame, table, list) {
         console::print::number(rt, b"differs=", differs as u64);
     }
 }

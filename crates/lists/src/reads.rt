@@ -3,7 +3,6 @@ use crate::compare;
 use crate::list::{Given, List};
 use header::SubFrame;
 use payload::layout::Kind;
-use reader::Found;
 use record::syntax::Record;
 
 // Whether a sub-frame of the frame tells what was given.
@@ -11,21 +10,17 @@ fn same(frame: &[u8], table: &[u16; 256], sub: SubFrame, given: Given) -> bool {
     if sub.cid != given.cid || sub.last != given.last {
         return false;
     }
-    let kind = given.kind;
-    if sub.ptype != crate::list::type_on(table, sub.cid, kind) {
-        return false;
-    }
-    same_content(
-        reader::part(frame, sub),
-        crate::list::record_on(table, sub.cid),
-        given,
-    )
+    crate::list::type_on(table, sub.cid, given.kind) == Ok(sub.ptype)
+        && same_content(
+            reader::part(frame, sub),
+            crate::list::record_on(table, sub.cid),
+            given,
+        )
 }
 
 // Whether a payload of the kind that was given tells the content.
 fn same_content(payload: &[u8], rec: Record, given: Given) -> bool {
-    let kind = given.kind;
-    match kind {
+    match given.kind {
         Kind::AVoice => compare::same_speech(payload, rec, given.seed),
         Kind::ADigits => compare::same_digits(payload, given.seed),
         Kind::ASignalling => compare::same_seizure(payload, given.seed),
@@ -37,37 +32,24 @@ fn same_content(payload: &[u8], rec: Record, given: Given) -> bool {
 
 // The sub-frame with this number, by a frame reader; past the last one of CID 0, which is none.
 fn sub_at(frame: &[u8], at: usize) -> SubFrame {
-    match reader::nth(frame, (at % 256) as u8) {
-        Found::Sub(sub) => sub,
-        Found::NoMore => SubFrame {
-            cid: 0,
-            ptype: 0,
-            start: 0,
-            len: 0,
-            last: false,
-        },
-    }
+    reader::nth(frame, (at % 256) as u8).unwrap_or(header::NONE)
 }
 
-// The first sub-frame, from 1, that is not the one given; 0 where all are.
-pub fn first_differing(frame: &[u8], table: &[u16; 256], list: List) -> usize {
-    let shape = list.shape;
-    let most = list.most;
+// The first sub-frame, from 1, that is not the one given.
+pub fn first_differing(frame: &[u8], table: &[u16; 256], list: List) -> Option<usize> {
     let mut seed = list.seed;
     let mut at: usize = 0;
-    let mut i: usize = 0;
-    while i < most {
+    for i in 0..list.most {
         let sub = sub_at(frame, i);
-        let given = crate::list::given_at(table, shape, most - i, at, seed);
-        i += 1;
+        let given = crate::list::given_at(table, list.shape, list.most - i, at, seed);
         if !same(frame, table, sub, given) {
-            return i;
+            return Some(i + 1);
         }
         if given.last {
-            return 0;
+            return None;
         }
         seed = crate::draws::next_seed(seed);
-        at = std::num::wrapping_add_usize(sub.start, sub.len);
+        at = sub.start.wrapping_add(sub.len);
     }
-    i
+    Some(list.most)
 }

@@ -1,49 +1,48 @@
 -- What the definitions of words and lines give, in the terms of the code that reads them.
-use Prim.Native.Nat.{ℕ, ◌+◌, ◌<◌, ◌≤◌}
+use Prim.Native.Nat.{ℕ, ◌<◌, ◌≤◌}
 use mathlib.Core.Path.{◌≡◌, refl, sym, ap, ◌∙◌}
 use mathlib.Core.List.{List, [], ◌∷◌, ◌++◌}
 use mathlib.Core.Bool.{Bool, true, false, cond}
 use native.Mathlib.Omega.{arith}
-use native.Mathlib.Numerals.{add-one}
 use borrow.Author.Tests.{eq-eqb, ne_eqb, eqb-true}
 use lib.Dec.{eqb}
-use lib.ListN.{length, get_or, drop, drop_of_length-le, length-append}
-use lib.Seq.{drop-cons}
+use lib.Pointwise.{pointwise}
+use Rattle.std.specs.Prelude.{nat_eq, ◌&&◌, ◌||◌}
+use Rattle.std.specs.List.{list_any}
+use lib.ListN.{length, take, drop, length-append}
 use Rattle.octets.specs.Text.{starts, has_lf}
 
 -- two constructors are never equal
 pub true-not-false : true ≡ false → ⊥
 true-not-false e = let z : ◌≡◌ {A = ℕ} 0 1 = cc in omega arith
 
--- comparing with a word, from place i on
-module _ (s w : List ℕ) (i : ℕ) where
-  pub all-passed : length w ≤ i → starts (drop i s) (drop i w) ≡ true
-  unfolding starts
-  all-passed h = rw (drop_of_length-le w h)
+-- the library's answers, in the terms of the definitions
+eqb-sym : (a b : ℕ) → eqb a b ≡ eqb b a
+eqb-sym a b = go (eqb b a) refl
+  where
+    go : (t : Bool) → eqb b a ≡ t → eqb a b ≡ t
+    go true e = eq-eqb a b (sym (eqb-true b a e))
+    go false e = ne_eqb a b (λ same. true-not-false (sym (eq-eqb b a (sym same)) ∙ e))
 
-  module _ (more : i < length w) (there : i < length s) where
-    pub differs : (get_or s i 0 ≡ get_or w i 0 → ⊥) → starts (drop i s) (drop i w) ≡ false
-    unfolding starts
-    differs h = rw (drop-cons s i 0 there, drop-cons w i 0 more) (simp (ne_eqb (get_or s i 0) (get_or w i 0) h))
+pub starts-by : (s w : List ℕ) → pointwise nat_eq w (take (length w) s) ≡ starts s w
+unfolding starts
+starts-by [] [] = refl
+starts-by (x ∷ xs) [] = refl
+starts-by [] (w ∷ ws) = refl
+starts-by (x ∷ xs) (w ∷ ws) = rw (eqb-sym w x) (go (eqb x w) (starts-by xs ws))
+  where
+    go : (t : Bool) → pointwise nat_eq ws (take (length ws) xs) ≡ starts xs ws → (t && pointwise nat_eq ws (take (length ws) xs)) ≡ cond t (starts xs ws) false
+    go true rest = rest
+    go false rest = refl
 
-    pub agrees : get_or s i 0 ≡ get_or w i 0 → starts (drop i s) (drop i w) ≡ starts (drop (i + 1) s) (drop (i + 1) w)
-    unfolding starts
-    agrees h = rw (drop-cons s i 0 there, drop-cons w i 0 more, add-one i) (simp (eq-eqb (get_or s i 0) (get_or w i 0) h))
-
--- looking for an LF, from place i on
-module _ (s : List ℕ) (i : ℕ) where
-  pub no_more : length s ≤ i → has_lf (drop i s) ≡ false
-  unfolding has_lf
-  no_more h = rw (drop_of_length-le s h)
-
-  module _ (there : i < length s) where
-    pub found : get_or s i 0 ≡ 10 → has_lf (drop i s) ≡ true
-    unfolding has_lf
-    found h = rw (drop-cons s i 0 there) (simp (eq-eqb (get_or s i 0) 10 h))
-
-    pub passed : (get_or s i 0 ≡ 10 → ⊥) → has_lf (drop i s) ≡ has_lf (drop (i + 1) s)
-    unfolding has_lf
-    passed h = rw (drop-cons s i 0 there, add-one i) (simp (ne_eqb (get_or s i 0) 10 h))
+pub lf-by : (s : List ℕ) → list_any (λ y. nat_eq y 10) s ≡ has_lf s
+unfolding has_lf
+lf-by [] = refl
+lf-by (x ∷ xs) = go (eqb x 10) (lf-by xs)
+  where
+    go : (t : Bool) → list_any (λ y. nat_eq y 10) xs ≡ has_lf xs → (t || list_any (λ y. nat_eq y 10) xs) ≡ cond t true (has_lf xs)
+    go true rest = refl
+    go false rest = rest
 
 pub both : (t u : Bool) → cond t u false ≡ true → (t ≡ true) × (u ≡ true)
 both true u e = (refl, e)

@@ -1,6 +1,6 @@
 -- Copies into room, and two copies one behind the other.
 use Prim.Native.Nat.{ℕ, ◌+◌, ◌<◌, ◌≤◌}
-use mathlib.Core.Path.{◌≡◌, sym, ap, ap₂, ◌∙◌}
+use mathlib.Core.Path.{◌≡◌, refl, sym, ap, ap₂, ◌∙◌}
 use mathlib.Core.List.{List, [], ◌∷◌, ◌++◌, append_assoc, append-nil}
 use native.Mathlib.Nat.{add_assoc, zero-add}
 use native.Mathlib.Numerals.{add-one, add-two}
@@ -8,10 +8,13 @@ use native.Mathlib.Omega.{arith}
 use borrow.Author.Tests.{lt-ltb, le-ltb}
 use lib.ListN.{length, get_or, set, take, drop, replicate, length-append, length-drop, length-replicate, replicate-append-replicate, drop_of_length-le, take-append-drop}
 use lib.Seq.{sets-eq, paste, paste-suc, length-paste, take_all, take_at, drop_at, drop-drop, length-take-le}
-use Rattle.refusal.specs.Numbers.{room_too_small}
-use Rattle.octets.specs.declared.Put.{Put}
-use Rattle.octets.specs.declared.Put.TheVariants.{Written, NotWritten}
+use borrow.Rule.Slice.PartMut.{put_mid}
+use Rattle.std.proofs.lemmas.Slice.{put_mid-paste}
 use Rattle.octets.specs.Room.{put, written, left_by}
+use Rattle.refusal.specs.declared.Refusal.{Refusal}
+use Rattle.std.specs.declared.result.Result.{Result}
+use Rattle.refusal.specs.declared.Refusal.TheVariants.{RoomTooSmall}
+use Rattle.std.specs.declared.result.Result.TheVariants.{Ok, Err}
 
 -- a copy of which i octets are made
 module _ (room₀ from room : List ℕ) (at i : ℕ) (fits : at + length from ≤ length room₀) (within : i ≤ length from)
@@ -27,6 +30,12 @@ module _ (room₀ from room : List ℕ) (at i : ℕ) (fits : at + length from �
       let whole : i ≡ length from = omega arith in
       is ∙ ap (λ (k : ℕ). take at room₀ ++ take k from ++ drop (at + k) room₀) whole
       ∙ ap (λ (l : List ℕ). take at room₀ ++ l ++ drop (at + length from) room₀) (take_all (length from) from (omega arith))
+
+-- octets stored in a part of the room that is as long
+pub copied : (room octets new : List ℕ) (at k : ℕ) → at + length octets ≤ length room → length octets ≡ k → new ≡ octets → put_mid at k room new ≡ written room at octets
+copied room octets new at k fits long is =
+    done room octets (put_mid at k room new) at (length octets) fits (omega arith)
+    (put_mid-paste at k room new octets (length octets) is long refl) (omega arith)
 
 -- an array that is filled from its start, of which i octets stand
 module _ (array₀ from array : List ℕ) (i : ℕ) (as_many : length array₀ ≡ length from) (within : i ≤ length from) (is : array ≡ paste array₀ 0 from i) where
@@ -103,17 +112,17 @@ module _ (room : List ℕ) (at : ℕ) where
   three-stored a b c fits = rw (add-one at, add-two at) (sets-eq (a ∷ b ∷ c ∷ []) room at fits)
 
 module _ (room octets : List ℕ) (at : ℕ) where
-  pub too_small : length room < at + length octets → NotWritten room_too_small ≡ put room at octets
+  pub too_small : length room < at + length octets → Err RoomTooSmall ≡ put room at octets
   unfolding put
   too_small h = simp (lt-ltb (length room) (at + length octets) h)
 
-  pub room_for : at + length octets ≤ length room → Written (at + length octets) ≡ put room at octets
+  pub room_for : at + length octets ≤ length room → Ok (at + length octets) ≡ put room at octets
   unfolding put
   room_for h = simp (le-ltb (length room) (at + length octets) h)
 
 -- octets that stand, and a run put behind them
 pub put-behind :
-    (room head body : List ℕ) (at : ℕ) (answer : Put) (left : List ℕ)
+    (room head body : List ℕ) (at : ℕ) (answer : Result ℕ Refusal) (left : List ℕ)
     → at + length (head ++ body) ≤ length room
     → answer ≡ put (written room at head) (at + length head) body
     → left ≡ left_by answer (written room at head) (at + length head) body
@@ -122,12 +131,12 @@ put-behind room head body at answer left fits p h =
     let many = length-append head body in
     let whole : at + length head + length body ≡ at + length (head ++ body) = omega arith in
     let same : length (written room at head) ≡ length room = length-written room head at (omega arith) in
-    let is : answer ≡ Written (at + length (head ++ body)) =
-    p ∙ sym (room_for (written room at head) body (at + length head) (omega arith)) ∙ ap Written whole
+    let is : answer ≡ Ok (at + length (head ++ body)) =
+    p ∙ sym (room_for (written room at head) body (at + length head) (omega arith)) ∙ ap Ok whole
     in (
       is ∙ room_for room (head ++ body) at fits,
       h
-          ∙ ap (λ (a : Put). left_by a (written room at head) (at + length head) body) is
+          ∙ ap (λ (a : Result ℕ Refusal). left_by a (written room at head) (at + length head) body) is
           ∙ written_twice room head body at (omega arith)
-          ∙ sym (ap (λ (a : Put). left_by a room at (head ++ body)) is),
+          ∙ sym (ap (λ (a : Result ℕ Refusal). left_by a room at (head ++ body)) is),
     )

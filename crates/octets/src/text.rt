@@ -9,29 +9,12 @@ pub const LF: u8 = 10;
 pub fn starts(s: &[u8], with: &[u8]) -> bool
     ensures { result ≡ starts s.now with.now }
 {
-    if s.len() < with.len() {
-        return false;
-    }
-    let mut i = 0;
-    while i < with.len() {
-        if s[i] != with[i] {
-            return false;
-        }
-        i += 1;
-    }
-    true
+    s.starts_with(with)
 }
 
 // Whether an LF comes.
 pub fn has_lf(s: &[u8]) -> bool
     ensures { result ≡ has_lf s.now }
 {
-    let mut i = 0;
-    while i < s.len() {
-        if s[i] == LF {
-            return true;
-        }
-        i += 1;
-    }
-    false
+    s.contains(&LF)
 }

@@ -3,7 +3,7 @@ ghost use Rattle.std.specs.Prelude.{◌≡◌};
 ghost use Rattle.payload.specs.Layout.{family_of, on_voice, on_fax, on_data, layout_of, type_in, type_for};
 
 use record::syntax::{Record, Syntax};
-use record::table::Found;
+use refusal::Refusal;
 
 // What the syntaxes have in common.
 #[derive(Clone, Copy)]
@@ -22,8 +22,6 @@ pub enum Layout {
     OfFax,
     OfSid(Syntax),
     OfData,
-    // The refusal number, 11 or 12.
-    NoLayout(u8),
 }
 
 // The kinds of content.
@@ -37,124 +35,98 @@ pub enum Kind {
     AData,
 }
 
-// The payload type of a content on a sub-channel.
-#[derive(Clone, Copy)]
-pub enum TypeFor {
-    Typed(u8),
-    // The refusal number, 11 or 12.
-    NoType(u8),
-}
-
 // What a syntax has in common with others.
 pub fn family_of(syntax: Syntax) -> Family
     ensures { result ≡ family_of syntax }
 {
     match syntax {
-        Syntax::Acelp => Family::VoiceFamily,
-        Syntax::Pcm => Family::VoiceFamily,
-        Syntax::G727 => Family::VoiceFamily,
-        Syntax::G728 => Family::VoiceFamily,
-        Syntax::G7231 => Family::VoiceFamily,
+        Syntax::Acelp | Syntax::Pcm | Syntax::G727 | Syntax::G728 | Syntax::G7231 =>
+            Family::VoiceFamily,
         Syntax::Data => Family::DataFamily,
         Syntax::Fax => Family::FaxFamily,
     }
 }
 
-fn on_voice(rec: Record, ptype: u8) -> Layout
+#[tactic(auto, unfolding(crate::specs::Layout::on_voice))]
+fn on_voice(rec: Record, ptype: u8) -> Result<Layout, Refusal>
     ensures { result ≡ on_voice rec ptype }
 {
-    let syntax = rec.syntax;
     match ptype {
-        0 => Layout::OfVoice(rec),
-        1 => Layout::OfDigits,
-        2 => Layout::OfSignalling,
-        3 => Layout::OfFax,
-        4 => Layout::OfSid(syntax),
-        5..=15 => Layout::NoLayout(refusal::TYPE_NOT_ALLOWED),
-        _ => Layout::NoLayout(refusal::TYPE_NOT_ALLOWED),
+        0 => Ok(Layout::OfVoice(rec)),
+        1 => Ok(Layout::OfDigits),
+        2 => Ok(Layout::OfSignalling),
+        3 => Ok(Layout::OfFax),
+        4 => Ok(Layout::OfSid(rec.syntax)),
+        5..=15 => Err(Refusal::TypeNotAllowed),
+        _ => Err(Refusal::TypeNotAllowed),
     }
 }
 
-fn on_fax(ptype: u8) -> Layout
+#[tactic(auto, unfolding(crate::specs::Layout::on_fax))]
+fn on_fax(ptype: u8) -> Result<Layout, Refusal>
     ensures { result ≡ on_fax ptype }
 {
     match ptype {
-        0 => Layout::OfFax,
-        1 => Layout::OfDigits,
-        2 => Layout::OfSignalling,
-        3..=15 => Layout::NoLayout(refusal::TYPE_NOT_ALLOWED),
-        _ => Layout::NoLayout(refusal::TYPE_NOT_ALLOWED),
+        0 => Ok(Layout::OfFax),
+        1 => Ok(Layout::OfDigits),
+        2 => Ok(Layout::OfSignalling),
+        3..=15 => Err(Refusal::TypeNotAllowed),
+        _ => Err(Refusal::TypeNotAllowed),
     }
 }
 
-fn on_data(ptype: u8) -> Layout
+#[tactic(auto, unfolding(crate::specs::Layout::on_data))]
+fn on_data(ptype: u8) -> Result<Layout, Refusal>
     ensures { result ≡ on_data ptype }
 {
     match ptype {
-        0 => Layout::OfData,
-        1..=15 => Layout::NoLayout(refusal::TYPE_NOT_ALLOWED),
-        _ => Layout::NoLayout(refusal::TYPE_NOT_ALLOWED),
+        0 => Ok(Layout::OfData),
+        1..=15 => Err(Refusal::TypeNotAllowed),
+        _ => Err(Refusal::TypeNotAllowed),
     }
 }
 
 // The layout of a payload of this type on this sub-channel.
-pub fn layout_of(found: Found, ptype: u8) -> Layout
+pub fn layout_of(found: Option<Record>, ptype: u8) -> Result<Layout, Refusal>
     ensures { result ≡ layout_of found ptype }
 {
-    match found {
-        Found::Provisioned(rec) => {
-            let syntax = rec.syntax;
-            match family_of(syntax) {
-                Family::VoiceFamily => on_voice(rec, ptype),
-                Family::DataFamily => on_data(ptype),
-                Family::FaxFamily => on_fax(ptype),
-            }
-        }
-        Found::Unprovisioned => Layout::NoLayout(refusal::NOT_PROVISIONED),
+    let rec = found.ok_or(Refusal::NotProvisioned)?;
+    match family_of(rec.syntax) {
+        Family::VoiceFamily => on_voice(rec, ptype),
+        Family::DataFamily => on_data(ptype),
+        Family::FaxFamily => on_fax(ptype),
     }
 }
 
-fn type_in(family: Family, kind: Kind) -> TypeFor
+fn type_in(family: Family, kind: Kind) -> Result<u8, Refusal>
     ensures { result ≡ type_in family kind }
 {
     match family {
         Family::VoiceFamily => match kind {
-            Kind::AVoice => TypeFor::Typed(0),
-            Kind::ADigits => TypeFor::Typed(1),
-            Kind::ASignalling => TypeFor::Typed(2),
-            Kind::AFax => TypeFor::Typed(3),
-            Kind::ASid => TypeFor::Typed(4),
-            Kind::AData => TypeFor::NoType(refusal::TYPE_NOT_ALLOWED),
+            Kind::AVoice => Ok(0),
+            Kind::ADigits => Ok(1),
+            Kind::ASignalling => Ok(2),
+            Kind::AFax => Ok(3),
+            Kind::ASid => Ok(4),
+            Kind::AData => Err(Refusal::TypeNotAllowed),
         },
         Family::DataFamily => match kind {
-            Kind::AVoice => TypeFor::NoType(refusal::TYPE_NOT_ALLOWED),
-            Kind::ADigits => TypeFor::NoType(refusal::TYPE_NOT_ALLOWED),
-            Kind::ASignalling => TypeFor::NoType(refusal::TYPE_NOT_ALLOWED),
-            Kind::AFax => TypeFor::NoType(refusal::TYPE_NOT_ALLOWED),
-            Kind::ASid => TypeFor::NoType(refusal::TYPE_NOT_ALLOWED),
-            Kind::AData => TypeFor::Typed(0),
+            Kind::AData => Ok(0),
+            _ => Err(Refusal::TypeNotAllowed),
         },
         Family::FaxFamily => match kind {
-            Kind::AVoice => TypeFor::NoType(refusal::TYPE_NOT_ALLOWED),
-            Kind::ADigits => TypeFor::Typed(1),
-            Kind::ASignalling => TypeFor::Typed(2),
-            Kind::AFax => TypeFor::Typed(0),
-            Kind::ASid => TypeFor::NoType(refusal::TYPE_NOT_ALLOWED),
-            Kind::AData => TypeFor::NoType(refusal::TYPE_NOT_ALLOWED),
+            Kind::AFax => Ok(0),
+            Kind::ADigits => Ok(1),
+            Kind::ASignalling => Ok(2),
+            _ => Err(Refusal::TypeNotAllowed),
         },
     }
 }
 
 // The type that a content of this kind is written with on this sub-channel.
-pub fn type_for(found: Found, kind: Kind) -> TypeFor
+pub fn type_for(found: Option<Record>, kind: Kind) -> Result<u8, Refusal>
     ensures { result ≡ type_for found kind }
 {
-    match found {
-        Found::Provisioned(rec) => {
-            let syntax = rec.syntax;
-            let family = family_of(syntax);
-            type_in(family, kind)
-        }
-        Found::Unprovisioned => TypeFor::NoType(refusal::NOT_PROVISIONED),
-    }
+    let rec = found.ok_or(Refusal::NotProvisioned)?;
+    type_in(family_of(rec.syntax), kind)
 }

@@ -6,31 +6,32 @@ use mathlib.Core.Bool.{true, false}
 use native.Mathlib.Omega.{arith}
 use borrow.Author.Tests.{lt-ltb, le-ltb, ltb-false}
 use lib.Dec.{ltb}
-use Rattle.refusal.specs.Numbers.{cid_reserved, not_provisioned, already_last}
 use Rattle.refusal.specs.Order.{◌gives◌}
 use Rattle.record.specs.declared.syntax.Record.{Record}
-use Rattle.record.specs.declared.table.Found.{Found}
-use Rattle.record.specs.declared.table.Found.TheVariants.{Provisioned, Unprovisioned}
 use Rattle.payload.specs.declared.layout.Family.{Family}
 use Rattle.payload.specs.declared.layout.Family.TheVariants.{VoiceFamily, DataFamily, FaxFamily}
 use Rattle.payload.specs.declared.layout.Kind.{Kind}
 use Rattle.payload.specs.declared.layout.Kind.TheVariants.{AVoice, ADigits, ASignalling, AFax, ASid, AData}
-use Rattle.payload.specs.declared.layout.TypeFor.{TypeFor}
-use Rattle.payload.specs.declared.layout.TypeFor.TheVariants.{Typed, NoType}
 use Rattle.payload.specs.Layout.{family_of, type_in, type_for}
 use Rattle.place.specs.declared.Writer.{Writer}
-use Rattle.place.specs.declared.Channel.TheVariants.{Takes, TakesNot}
-use Rattle.place.specs.Place.{typed_on, on_channel, channel_for}
+use Rattle.place.specs.declared.Channel.{Channel}
+use Rattle.place.specs.Place.{typed_on, on_channel, channel_for, takes_as}
 use Rattle.place.proofs.Tables.{passed}
+use Rattle.refusal.specs.declared.Refusal.{Refusal}
+use Rattle.std.specs.declared.option.Option.{Option}
+use Rattle.std.specs.declared.result.Result.{Result}
+use Rattle.refusal.specs.declared.Refusal.TheVariants.{CidReserved, NotProvisioned, AlreadyLast}
+use Rattle.std.specs.declared.option.Option.TheVariants.{Some, None}
+use Rattle.std.specs.declared.result.Result.TheVariants.{Ok, Err}
 
 -- 24, 4, 11, 12
-module _ (w : Writer) (found : Found) (cid : ℕ) (kind : Kind) where
-  pub after_last : w.done ≡ true → TakesNot already_last ≡ channel_for w found cid kind
+module _ (w : Writer) (found : Option Record) (cid : ℕ) (kind : Kind) where
+  pub after_last : w.done ≡ true → Err AlreadyLast ≡ channel_for w found cid kind
   unfolding channel_for
   after_last done = simp done
 
   module _ (going : w.done ≡ false) where
-    pub reserved : cid < 4 → TakesNot cid_reserved ≡ channel_for w found cid kind
+    pub reserved : cid < 4 → Err CidReserved ≡ channel_for w found cid kind
     unfolding channel_for
     reserved h = simp (going, lt-ltb cid 4 h)
 
@@ -39,21 +40,21 @@ module _ (w : Writer) (found : Found) (cid : ℕ) (kind : Kind) where
       unfolding channel_for
       by-record = simp (going, le-ltb cid 4 free)
 
-      module _ {f : Found} (is : f ≡ found) where
-        pub none : f ≡ Unprovisioned → TakesNot not_provisioned ≡ channel_for w found cid kind
-        none e = ap (λ (x : Found). on_channel x kind) (sym e ∙ is) ∙ by-record
+      module _ {f : Option Record} (is : f ≡ found) where
+        pub none : f ≡ None → Err NotProvisioned ≡ channel_for w found cid kind
+        none e = ap (λ (x : Option Record). on_channel x kind) (sym e ∙ is) ∙ by-record
 
-        pub typed : (r : Record) {t given : TypeFor}
-            → f ≡ Provisioned r
-            → t ≡ type_for (Provisioned r) kind
+        pub typed : (r : Record) {t given : Result ℕ Refusal}
+            → f ≡ Some r
+            → t ≡ type_for (Some r) kind
             → t ≡ given
             → typed_on r given ≡ channel_for w found cid kind
-        typed r p told e = ap (typed_on r) (sym e ∙ told) ∙ ap (λ (x : Found). on_channel x kind) (sym p ∙ is) ∙ by-record
+        typed r p told e = ap (typed_on r) (sym e ∙ told) ∙ ap (λ (x : Option Record). on_channel x kind) (sym p ∙ is) ∙ by-record
 
 -- a type that a content is written with is one of 0 to 4
-abbrev at_most : ℕ → TypeFor → Type 0
-at_most most (Typed ptype) = ptype ≤ most
-at_most most (NoType number) = Unit
+abbrev at_most : ℕ → Result ℕ Refusal → Type 0
+at_most most (Ok ptype) = ptype ≤ most
+at_most most (Err number) = Unit
 
 small-type : (family : Family) (kind : Kind) → at_most 4 (type_in family kind)
 small-type VoiceFamily AVoice = omega arith
@@ -75,40 +76,42 @@ small-type FaxFamily AFax = omega arith
 small-type FaxFamily ASid = tt
 small-type FaxFamily AData = tt
 
-pub small-typed : (found : Found) (kind : Kind) (ptype : ℕ) → type_for found kind ≡ Typed ptype → ptype ≤ 4
-small-typed (Provisioned r) kind ptype is = subst (at_most 4) is (small-type (family_of r.syntax) kind)
-small-typed Unprovisioned kind ptype is = subst (at_most 4) is tt
+pub small-typed : (found : Option Record) (kind : Kind) (ptype : ℕ) → type_for found kind ≡ Ok ptype → ptype ≤ 4
+small-typed (Some r) kind ptype is = subst (at_most 4) is (small-type (family_of r.syntax) kind)
+small-typed None kind ptype is = subst (at_most 4) is tt
 
-refused-not : {A : Type 0} (n ptype : ℕ) (r : Record) → TakesNot n ≡ Takes r ptype → A
+refused-not : {A : Type 0} (n : Refusal) (ptype : ℕ) (r : Record) → Err n ≡ takes_as r ptype → A
 refused-not n ptype r e = let z : ◌≡◌ {A = ℕ} 0 1 = cc in absurd (omega arith)
 
-same-channel : (r s : Record) (a b : ℕ) → Takes r a ≡ Takes s b → (r ≡ s) × (a ≡ b)
-same-channel r s a b e = (cc, cc)
+same-channel : (r s : Record) (a b : ℕ) → takes_as r a ≡ takes_as s b → (r ≡ s) × (a ≡ b)
+same-channel r s a b e =
+    let same : ◌≡◌ {A = Channel} (record { rec = r; ptype = a }) (record { rec = s; ptype = b }) = cc in
+    (ap (λ (c : Channel). c.rec) same, ap (λ (c : Channel). c.ptype) same)
 
 -- what is known of a sub-channel that takes a content
-pub record Taking (w : Writer) (found : Found) (cid : ℕ) (kind : Kind) (r : Record) (ptype : ℕ) : Type 0 where
+pub record Taking (w : Writer) (found : Option Record) (cid : ℕ) (kind : Kind) (r : Record) (ptype : ℕ) : Type 0 where
   pub going : w.done ≡ false
   pub free : 4 ≤ cid
-  pub provisioned : found ≡ Provisioned r
-  pub typed : type_for found kind ≡ Typed ptype
+  pub provisioned : found ≡ Some r
+  pub typed : type_for found kind ≡ Ok ptype
 
-typed-back : (s : Record) (t : TypeFor) (r : Record) (ptype : ℕ) → typed_on s t ≡ Takes r ptype → (Provisioned s ≡ Provisioned r) × (t ≡ Typed ptype)
-typed-back s (Typed p) r ptype e = let same = same-channel _ _ _ _ e in (ap Provisioned same.0, ap Typed same.1)
-typed-back s (NoType n) r ptype e = refused-not n ptype r e
+typed-back : (s : Record) (t : Result ℕ Refusal) (r : Record) (ptype : ℕ) → typed_on s t ≡ takes_as r ptype → (Some s ≡ Some r) × (t ≡ Ok ptype)
+typed-back s (Ok p) r ptype e = let same = same-channel _ _ _ _ e in (ap Some same.0, ap Ok same.1)
+typed-back s (Err n) r ptype e = refused-not n ptype r e
 
-record-back : (found : Found) (kind : Kind) (r : Record) (ptype : ℕ)
-    → on_channel found kind ≡ Takes r ptype
-    → (found ≡ Provisioned r) × (type_for found kind ≡ Typed ptype)
-record-back (Provisioned s) kind r ptype e = typed-back s (type_for (Provisioned s) kind) r ptype e
-record-back Unprovisioned kind r ptype e = refused-not _ ptype r e
+record-back : (found : Option Record) (kind : Kind) (r : Record) (ptype : ℕ)
+    → on_channel found kind ≡ takes_as r ptype
+    → (found ≡ Some r) × (type_for found kind ≡ Ok ptype)
+record-back (Some s) kind r ptype e = typed-back s (type_for (Some s) kind) r ptype e
+record-back None kind r ptype e = refused-not _ ptype r e
 
-pub taking : (w : Writer) (found : Found) (cid : ℕ) (kind : Kind) (r : Record) (ptype : ℕ)
-    → channel_for w found cid kind ≡ Takes r ptype
+pub taking : (w : Writer) (found : Option Record) (cid : ℕ) (kind : Kind) (r : Record) (ptype : ℕ)
+    → channel_for w found cid kind ≡ takes_as r ptype
     → Taking w found cid kind r ptype
 unfolding channel_for
 taking w found cid kind r ptype is =
     let pass =
-    passed (w.done gives already_last ∷ ltb cid 4 gives cid_reserved ∷ []) TakesNot (on_channel found kind) (Takes r ptype)
+    passed (w.done gives AlreadyLast ∷ ltb cid 4 gives CidReserved ∷ []) Err (on_channel found kind) (takes_as r ptype)
     (λ n. refused-not n ptype r)
     is
     in

@@ -12,8 +12,7 @@ use Rattle.octets.specs.Made.{Made, made, unmade, fit_of}
 use Rattle.octets.specs.Room.{written}
 use Rattle.joining.specs.Joining.{shortest_header}
 use Rattle.place.specs.declared.Writer.{Writer}
-use Rattle.place.specs.declared.Entered.TheVariants.{Place}
-use Rattle.place.specs.Place.{most_not_last, too_long, entered}
+use Rattle.place.specs.Place.{most_not_last, too_long, entered, place_at}
 use Rattle.place.proofs.PlaceCases.{never, Placed, placed-back}
 
 -- a content that has its place: what its layout makes
@@ -24,7 +23,7 @@ pub record Entry (room : ℕ) (w : Writer) (last : Bool) (cid ptype : ℕ) (m : 
   pub place : Placed room w last cid ptype (length payload) start next
 
 pub entered-back : (room : ℕ) (w : Writer) (last : Bool) (cid ptype : ℕ) (m : Made) (start len : ℕ) (next : Writer)
-    → entered room w last cid ptype (fit_of m) ≡ Place start len next
+    → entered room w last cid ptype (fit_of m) ≡ place_at start len next
     → Entry room w last cid ptype m start len next
 entered-back room w last cid ptype (unmade n) start len next is = never n start len next is
 entered-back room w last cid ptype (made payload) start len next is =

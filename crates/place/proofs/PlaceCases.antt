@@ -6,15 +6,17 @@ use mathlib.Core.Bool.{Bool, true, false}
 use native.Mathlib.Omega.{arith}
 use borrow.Author.Tests.{lt-ltb, le-ltb, ltb-false}
 use lib.Dec.{ltb}
-use Rattle.refusal.specs.Numbers.{room_too_small, too_long_not_last, frame_full}
 use Rattle.refusal.specs.Order.{Test, ◌gives◌}
 use Rattle.octets.proofs.Order.{clash}
 use Rattle.frame.specs.Opening.{most_octets, most_sub_frames}
 use Rattle.joining.specs.Joining.{header_size}
 use Rattle.place.specs.declared.Writer.{Writer}
-use Rattle.place.specs.declared.Entered.TheVariants.{Place, NoPlace}
-use Rattle.place.specs.Place.{too_long, full, placed}
+use Rattle.place.specs.declared.Place.{Place}
+use Rattle.place.specs.Place.{too_long, full, placed, place_at}
 use Rattle.place.proofs.Tables.{passed}
+use Rattle.refusal.specs.declared.Refusal.{Refusal}
+use Rattle.std.specs.declared.result.Result.TheVariants.{Err}
+use Rattle.refusal.specs.declared.Refusal.TheVariants.{RoomTooSmall, TooLongNotLast, FrameFull}
 
 -- 23
 module _ (w : Writer) (header len : ℕ) where
@@ -31,28 +33,28 @@ module _ (w : Writer) (header len : ℕ) where
 -- where a sub-frame may end
 pub within : (w : Writer) (end : ℕ) → full w end ≡ false → (w.count + 1 ≤ most_sub_frames) × (end ≤ most_octets)
 within w end e =
-    let pass = passed (ltb most_sub_frames (w.count + 1) gives 0 ∷ []) (λ n. true) (ltb most_octets end) false (λ n. clash true refl) e in
+    let pass = passed (ltb most_sub_frames (w.count + 1) gives FrameFull ∷ []) (λ n. true) (ltb most_octets end) false (λ n. clash true refl) e in
     (ltb-false most_sub_frames (w.count + 1) pass.0.0, ltb-false most_octets end pass.1)
 
 -- 22, 23, 21, with a header of so many octets
 module _ (room : ℕ) (w : Writer) (last : Bool) (cid ptype len : ℕ) where
-  pub long : too_long last len ≡ true → NoPlace too_long_not_last ≡ placed room w last cid ptype len
+  pub long : too_long last len ≡ true → Err TooLongNotLast ≡ placed room w last cid ptype len
   unfolding placed
   long h = simp h
 
   module _ (short : too_long last len ≡ false) {header : ℕ} (is : header ≡ header_size cid ptype last) where
-    pub passes : full w (w.at + header + len) ≡ true → NoPlace frame_full ≡ placed room w last cid ptype len
+    pub passes : full w (w.at + header + len) ≡ true → Err FrameFull ≡ placed room w last cid ptype len
     unfolding placed
     passes h = simp (short, rw is at h)
 
     module _ (fits : full w (w.at + header + len) ≡ false) where
-      pub small : room < w.at + header + len → NoPlace room_too_small ≡ placed room w last cid ptype len
+      pub small : room < w.at + header + len → Err RoomTooSmall ≡ placed room w last cid ptype len
       unfolding placed
       small h = simp (short, rw is at fits, lt-ltb room (w.at + header_size cid ptype last + len) (rw is at h))
 
       pub has-place :
           w.at + header + len ≤ room
-          → Place (w.at + header) len (record { at = w.at + header + len; count = w.count + 1; done = last })
+          → place_at (w.at + header) len (record { at = w.at + header + len; count = w.count + 1; done = last })
           ≡ placed room w last cid ptype len
       unfolding placed
       has-place h = rw is (simp (short, rw is at fits, le-ltb room (w.at + header_size cid ptype last + len) (rw is at h)))
@@ -66,20 +68,22 @@ pub record Placed (room : ℕ) (w : Writer) (last : Bool) (cid ptype len start :
   pub within : start + len ≤ most_octets
   pub few : w.count + 1 ≤ most_sub_frames
 
-pub never : {A : Type 0} (number start len : ℕ) (next : Writer) → NoPlace number ≡ Place start len next → A
-never number start len next e = let z : ◌≡◌ {A = ℕ} 0 1 = cc in absurd (omega arith)
+pub never : {A : Type 0} (refusal : Refusal) (start len : ℕ) (next : Writer) → Err refusal ≡ place_at start len next → A
+never refusal start len next e = let z : ◌≡◌ {A = ℕ} 0 1 = cc in absurd (omega arith)
 
-same_place : (a b m n : ℕ) (v w : Writer) → Place a m v ≡ Place b n w → (a ≡ b) × (m ≡ n) × (v ≡ w)
-same_place a b m n v w e = (cc, cc, cc)
+same_place : (a b m n : ℕ) (v w : Writer) → place_at a m v ≡ place_at b n w → (a ≡ b) × (m ≡ n) × (v ≡ w)
+same_place a b m n v w e =
+    let same : ◌≡◌ {A = Place} (record { start = a; len = m; next = v }) (record { start = b; len = n; next = w }) = cc in
+    (ap (λ (p : Place). p.start) same, ap (λ (p : Place). p.len) same, ap (λ (p : Place). p.next) same)
 
 pub placed-back : (room : ℕ) (w : Writer) (last : Bool) (cid ptype len start many : ℕ) (next : Writer)
-    → placed room w last cid ptype len ≡ Place start many next
+    → placed room w last cid ptype len ≡ place_at start many next
     → (len ≡ many) × Placed room w last cid ptype len start next
 unfolding placed
 placed-back room w last cid ptype len start many next is =
     let begins : ℕ = w.at + header_size cid ptype last in
-    let tests : List Test = too_long last len gives too_long_not_last ∷ full w (begins + len) gives frame_full ∷ ltb room (begins + len) gives room_too_small ∷ [] in
-    let pass = passed tests NoPlace (Place begins len (record { at = begins + len; count = w.count + 1; done = last })) (Place start many next) (λ n. never n start many next) is in
+    let tests : List Test = too_long last len gives TooLongNotLast ∷ full w (begins + len) gives FrameFull ∷ ltb room (begins + len) gives RoomTooSmall ∷ [] in
+    let pass = passed tests Err (place_at begins len (record { at = begins + len; count = w.count + 1; done = last })) (place_at start many next) (λ n. never n start many next) is in
     let same = same_place _ _ _ _ _ _ pass.1 in
     let most = within w (begins + len) pass.0.1.0 in (
       same.1,

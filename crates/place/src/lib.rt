@@ -6,43 +6,35 @@ ghost use Rattle.std.specs.Prelude.{◌≡◌, ◌+◌};
 ghost use Rattle.record.specs.Record.{found_at};
 ghost use Rattle.place.specs.Place.{fresh_writer, channel_for, too_long, full, placed, entered};
 
-use octets::Fit;
-use payload::layout::{Kind, TypeFor};
+use payload::layout::Kind;
 use record::syntax::Record;
-use record::table::Found;
+use refusal::Refusal;
 
 // The largest payload that is not last, by its length octet.
 const MOST_NOT_LAST: usize = 255;
 
 // Where the writer stands: the octets and the sub-frames written, and whether the last one is among them. A caller
 // may hand in any value.
-#[derive(Clone, Copy)]
+#[derive(Clone, Copy, Debug, PartialEq, Eq)]
 pub struct Writer {
     pub at: usize,
     pub count: usize,
     pub done: bool,
 }
 
-// What a sub-channel takes a content as.
-#[derive(Clone, Copy)]
-pub enum Channel {
-    // Its record, and the content's payload type there.
-    Takes { rec: Record, ptype: u8 },
-    // The refusal number: 24, 4, 11 or 12.
-    TakesNot(u8),
+// What a sub-channel takes a content as: its record, and the content's payload type there.
+#[derive(Clone, Copy, Debug, PartialEq, Eq)]
+pub struct Channel {
+    pub rec: Record,
+    pub ptype: u8,
 }
 
-// Whether a sub-frame has its place.
-#[derive(Clone, Copy)]
-pub enum Entered {
-    // Where the payload begins, its octets, and the writer after it.
-    Place {
-        start: usize,
-        len: usize,
-        next: Writer,
-    },
-    // The refusal number: the payload's own, 22, 23 or 21.
-    NoPlace(u8),
+// The place of a sub-frame: where the payload begins, its octets, and the writer after it.
+#[derive(Clone, Copy, Debug, PartialEq, Eq)]
+pub struct Place {
+    pub start: usize,
+    pub len: usize,
+    pub next: Writer,
 }
 
 // The writer at the start of a frame.
@@ -57,79 +49,87 @@ pub fn fresh() -> Writer
 }
 
 // 24, 4, 11, 12: what the sub-channel takes a content of this kind as.
-pub fn channel_for(writer: Writer, table: &[u16; 256], cid: u8, kind: Kind) -> Channel
+#[tactic(auto, unfolding(crate::specs::Place::channel_for))]
+pub fn channel_for(
+    writer: Writer,
+    table: &[u16; 256],
+    cid: u8,
+    kind: Kind,
+) -> Result<Channel, Refusal>
     ensures { result ≡ channel_for writer (found_at table.now cid) cid kind }
 {
     if writer.done {
-        return Channel::TakesNot(refusal::ALREADY_LAST);
+        return Err(Refusal::AlreadyLast);
     }
     if cid < 4 {
-        return Channel::TakesNot(refusal::CID_RESERVED);
+        return Err(Refusal::CidReserved);
     }
     let found = record::table::record_of(table, cid);
-    match found {
-        Found::Unprovisioned => Channel::TakesNot(refusal::NOT_PROVISIONED),
-        Found::Provisioned(rec) => match payload::layout::type_for(found, kind) {
-            TypeFor::NoType(number) => Channel::TakesNot(number),
-            TypeFor::Typed(ptype) => Channel::Takes { rec, ptype },
-        },
-    }
+    let Some(rec) = found else {
+        return Err(Refusal::NotProvisioned);
+    };
+    let ptype = payload::layout::type_for(found, kind)?;
+    Ok(Channel { rec, ptype })
 }
 
 // 22: over 255 octets and not last.
 fn too_long(last: bool, len: usize) -> bool
     ensures { result ≡ too_long last len }
 {
-    if last {
-        return false;
-    }
-    MOST_NOT_LAST < len
+    !last && MOST_NOT_LAST < len
 }
 
 // 23: a frame that would pass 64 sub-frames or, with a header and a payload of so many octets, 1,600 octets.
 fn full(writer: Writer, header: usize, len: usize) -> bool
     ensures { result ≡ full writer (writer.at + header + len) }
 {
-    if frame::MOST_SUB_FRAMES <= writer.count {
-        return true;
-    }
-    if octets::exceeds(frame::MOST_OCTETS, writer.at, header) {
-        return true;
-    }
-    octets::exceeds(frame::MOST_OCTETS, writer.at + header, len)
+    frame::MOST_SUB_FRAMES <= writer.count
+        || octets::exceeds(frame::MOST_OCTETS, writer.at, header)
+        || octets::exceeds(frame::MOST_OCTETS, writer.at + header, len)
 }
 
 // 22, 23, 21: where a payload of so many octets begins, behind its header, and the writer after it.
 #[tactic(auto, unfolding(crate::specs::Place::placed))]
-fn place(room: usize, writer: Writer, last: bool, cid: u8, ptype: u8, len: usize) -> Entered
+fn place_for(
+    room: usize,
+    writer: Writer,
+    last: bool,
+    cid: u8,
+    ptype: u8,
+    len: usize,
+) -> Result<Place, Refusal>
     ensures { result ≡ placed room writer last cid ptype len }
 {
     if too_long(last, len) {
-        return Entered::NoPlace(refusal::TOO_LONG_NOT_LAST);
+        return Err(Refusal::TooLongNotLast);
     }
     let header = joining::header_size(cid, ptype, last);
     if full(writer, header, len) {
-        return Entered::NoPlace(refusal::FRAME_FULL);
+        return Err(Refusal::FrameFull);
     }
     let start = writer.at + header;
     let end = start + len;
     if room < end {
-        return Entered::NoPlace(refusal::ROOM_TOO_SMALL);
+        return Err(Refusal::RoomTooSmall);
     }
     let next = Writer {
         at: end,
         count: writer.count + 1,
         done: last,
     };
-    Entered::Place { start, len, next }
+    Ok(Place { start, len, next })
 }
 
-// 13 to 16 for a content that fits so, then 22, 23, 21: whether it has its place.
-pub fn enter(room: usize, writer: Writer, last: bool, cid: u8, ptype: u8, fit: Fit) -> Entered
+// 13 to 16 for a content that fits so, then 22, 23, 21: its place.
+pub fn enter(
+    room: usize,
+    writer: Writer,
+    last: bool,
+    cid: u8,
+    ptype: u8,
+    fit: Result<usize, Refusal>,
+) -> Result<Place, Refusal>
     ensures { result ≡ entered room writer last cid ptype fit }
 {
-    match fit {
-        Fit::Unfit(number) => Entered::NoPlace(number),
-        Fit::Octets(len) => place(room, writer, last, cid, ptype, len),
-    }
+    place_for(room, writer, last, cid, ptype, fit?)
 }

@@ -8,14 +8,14 @@ use native.Mathlib.Numerals.{add-one}
 use borrow.Author.Tests.{ltb-false, le-ltb}
 use lib.Dec.{ltb}
 use lib.ListN.{length, get_or, set, take, length-append}
-use lib.Seq.{take-suc, take_all}
+use lib.Seq.{take-suc}
 use Rattle.octets.specs.Room.{written}
 use Rattle.octets.specs.Text.{ascii}
 use Rattle.octets.proofs.Writes as writes
 use Rattle.printing.specs.Decimal.{decimal}
 use Rattle.printing.specs.Hex.{hex_pair, hex_of}
 use Rattle.printing.specs.Field.{field, hex_field, line}
-use Rattle.printing.specs.Refused.{refused_listing, text_listing}
+use Rattle.printing.specs.Refused.{refused_listing}
 use Rattle.printing.specs.Room.{fitting, Appended}
 use Rattle.printing.proofs.Spelling as spelling
 
@@ -60,25 +60,6 @@ none out at = record { ends = omega arith; holds = sym (writes.written_none out 
 
 pub one : (out : List ℕ) (at octet : ℕ) → at + 1 ≤ length out → Appended out at (octet ∷ []) 1 (set out at octet) (at + 1)
 one out at octet room = record { ends = refl; holds = writes.one-stored out at octet room; size = omega arith }
-
--- one octet more of a text
-pub more :
-    (text : List ℕ) (i octet : ℕ) {out mid after : List ℕ} {at next last : ℕ}
-    → i < length text
-    → octet ≡ get_or text i 0
-    → at + length text ≤ length out
-    → Appended out at (take i text) i mid next
-    → Appended mid next (octet ∷ []) 1 after last
-    → Appended out at (take (i + 1) text) (i + 1) after last
-more text i octet there is room first second =
-    reads (then first second (omega arith)) (rw (is, add-one i) (sym (take-suc text i 0 there)))
-
-module _ (text : List ℕ) (i : ℕ) {out mid : List ℕ} {at next : ℕ} where
-  pub room-for-more : i < length text → at + length text ≤ length out → Appended out at (take i text) i mid next → next + 1 ≤ length mid
-  room-for-more there room first = omega (arith, first.ends, first.size, same_length first (omega arith))
-
-  pub whole : i ≤ length text → length text ≤ i → Appended out at (take i text) i mid next → Appended out at text (length text) mid next
-  whole le all first = within (reads first (take_all i text all)) (length text) (omega arith)
 
 -- the room that is asked is there, or not
 module _ (most : ℕ) (before text : List ℕ) (at : ℕ) where
@@ -166,12 +147,6 @@ module _ (octets : List ℕ) (i : ℕ) {out mid : List ℕ} {at next : ℕ} (fir
   hex-turn octet h is room second =
       within (reads (then first second (omega arith)) (hex-more octets i octet h is)) (2 * (i + 1)) (omega arith)
 
-  pub hex-room : i < length octets → at + 2 * length octets ≤ length out → next + 2 ≤ length mid
-  hex-room h room = omega (arith, first.ends, first.size, same_length first (omega arith))
-
-  pub hex-whole : i ≤ length octets → length octets ≤ i → Appended out at (hex_of octets) (2 * length octets) mid next
-  hex-whole le all = within (reads first (ap hex_of (take_all i octets all))) (2 * length octets) (omega arith)
-
 pub put-hex-field :
     (key octets : List ℕ) {out first second after : List ℕ} {at past end next : ℕ}
     → at + (length key + (2 * length octets + 1)) ≤ length out
@@ -197,20 +172,13 @@ pub put-line :
 unfolding line
 put-line text room a b = then a b room
 
--- the lines of a refused frame, and of a refused text
+-- the lines of a refused frame
 pub refused-size : (n number place : ℕ) → length (refused_listing n number place) ≤ 80
 unfolding refused_listing
 refused-size n number place =
     let a = field-size (ascii "frame=") n in
     let b = field-size (ascii "refused=") number in
     let c = field-size (ascii "at=") place in
-    simp length-append (omega arith)
-
-pub text-size : (number line : ℕ) → length (text_listing number line) ≤ 52
-unfolding text_listing
-text-size number line =
-    let a = field-size (ascii "text=") number in
-    let b = field-size (ascii "line=") line in
     simp length-append (omega arith)
 
 -- each behind another text

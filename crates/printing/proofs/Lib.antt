@@ -1,4 +1,3 @@
 pub mod Spelling
 pub mod Appending
 pub mod Digits
-pub mod HexRoom

@@ -11,15 +11,15 @@ pub(crate) fn put_octet(out: &mut [u8], at: usize, octet: u8) -> usize
     at + 1
 }
 
+// The same with a text.
 pub(crate) fn put_text(out: &mut [u8], at: usize, text: &[u8]) -> usize
     requires { at + length text.now ≤ length out.old }
     ensures { Appended out.old at text.now (length text.now) out.new result }
 {
     let mut next = at;
-    let mut i: usize = 0;
-    while i < text.len() {
-        next = put_octet(out, next, text[i]);
-        i += 1;
+    // Stays a loop: with `copy_from_slice` the fields of a listing take more instructions.
+    for octet in text {
+        next = put_octet(out, next, *octet);
     }
     next
 }

@@ -8,6 +8,7 @@ ghost use Rattle.printing.specs.Room.{fitting, Appended};
 use crate::append::{put_octet, put_text};
 use octets::text::LF;
 
+#[tactic(auto, unfolding(crate::specs::Hex::hex_digit))]
 fn hex_digit(n: u8) -> u8
     requires { n < 16 }
     ensures { result ≡ hex_digit n }
@@ -31,10 +32,8 @@ fn put_hex(out: &mut [u8], at: usize, octets: &[u8]) -> usize
     ensures { Appended out.old at (hex_of octets.now) (2 * length octets.now) out.new result }
 {
     let mut next = at;
-    let mut i: usize = 0;
-    while i < octets.len() {
-        next = put_pair(out, next, octets[i]);
-        i += 1;
+    for octet in octets {
+        next = put_pair(out, next, *octet);
     }
     next
 }

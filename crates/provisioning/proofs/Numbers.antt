@@ -1,166 +1,148 @@
 -- A number that was read: it stands in the text in decimal digits, before an LF.
-use Prim.Native.Nat.{ℕ, ◌+◌, ◌*◌, ◌/◌, ◌%◌, ◌<◌, ◌≤◌}
-use mathlib.Core.Path.{◌≡◌, refl, sym, ap, subst, ◌∙◌}
-use mathlib.Core.List.{List, [], ◌∷◌, ◌++◌}
-use mathlib.Core.Logic.{◌⊎◌, inl, inr, ⊎_elim}
+use Prim.Native.Nat.{ℕ, ◌+◌, ◌-◌, ◌*◌, ◌/◌, ◌%◌, ◌<◌, ◌≤◌}
+use mathlib.Core.Path.{◌≡◌, refl, subst}
+use mathlib.Core.List.{List, ◌∷◌, ◌++◌}
+use mathlib.Core.Logic.{⊎_elim}
 use native.Mathlib.Omega.{arith}
-use borrow.Author.Tests.{lt-ltb, le-ltb}
+use borrow.Author.Tests.{lt-ltb, le-ltb, leb-true, eqb-true, eqb-false}
+use lib.Dec.{leb, eqb}
 use lib.ListN.{length, get_or, drop, get_or-eq_default}
 use lib.Seq.{drop-cons}
-use Rattle.octets.proofs.Order.{lt-or-le, eq-or-ne}
-use Rattle.value.specs.declared.Value.TheVariants.{Whole, Malformed}
-use Rattle.value.specs.Value.{digit_of, number_of}
+use Rattle.std.proofs.lemmas.Option.{none-some, same_Some, cond_some}
+use Rattle.std.specs.declared.option.Option.{Option}
+use Rattle.std.specs.declared.option.Option.TheVariants.{Some, None}
+use Rattle.octets.proofs.Order.{lt-or-le, either}
+use Rattle.record.proofs.Listed.{both}
+use Rattle.value.specs.declared.Value.{Value}
+use Rattle.value.specs.Value.{valued, digit_of, third_digit, second_digit, number_by, number_of}
 use Rattle.provisioning.specs.Back.{decimal}
-use Rattle.value.proofs.Values as values
 
-pub record Read (s : List ℕ) (value size : ℕ) : Type 0 where
-  pub some : 2 ≤ size
-  pub few : size ≤ 4
-  pub text : s ≡ decimal value ++ 10 ∷ drop size s
+pub record Read (s : List ℕ) (v : Value) : Type 0 where
+  pub within : v.size ≤ length s
+  pub text : s ≡ decimal v.value ++ 10 ∷ drop v.size s
 
-digit-is : (o : ℕ) → digit_of o ≤ 9 → o ≡ 48 + digit_of o
+digit-is : (o d : ℕ) → digit_of o ≡ Some d → (d ≤ 9) × (o ≡ 48 + d)
 unfolding digit_of
-digit-is o h =
-    ⊎_elim (λ below. absurd (omega (arith, simp (lt-ltb o 48 below) at h)))
-    (λ from.
-    ⊎_elim (λ beyond. absurd (omega (arith, simp (le-ltb o 48 from, lt-ltb 57 o beyond) at h)))
-    (λ to. simp (le-ltb o 48 from, le-ltb 57 o to) (omega arith))
-    (lt-or-le 57 o))
-    (lt-or-le o 48)
+digit-is o d e =
+    let h = cond_some _ (o - 48) d e in
+    let range = both (leb 48 o) (leb o 57) h.0 in
+    let low : 48 ≤ o = leb-true 48 o range.0 in
+    let high : o ≤ 57 = leb-true o 57 range.1 in
+    let is : o - 48 ≡ d = h.1 in
+    (omega arith, omega arith)
 
 there : (s : List ℕ) (k : ℕ) → get_or s k 0 ≡ 10 → k < length s
 there s k e =
     ⊎_elim (λ h. h) (λ h. absurd (omega (arith, get_or-eq_default s 0 h))) (lt-or-le k (length s))
 
-module _ (s : List ℕ) where
-  module _ (digit : digit_of (get_or s 0 0) ≤ 9) where
-    read_one : get_or s 1 0 ≡ 10 → Read s (digit_of (get_or s 0 0)) 2
+module _ (s : List ℕ) (a : ℕ) (is-a : digit_of (get_or s 0 0) ≡ Some a) where
+  first : (a ≤ 9) × (get_or s 0 0 ≡ 48 + a)
+  first = digit-is _ a is-a
+
+  read_one : get_or s 1 0 ≡ 10 → Read s (valued a 2)
+  unfolding decimal
+  read_one e =
+      let low : a < 10 = omega (arith, first.0) in
+      let in1 : 1 < length s = there s 1 e in
+      let in0 : 0 < length s = omega arith in
+      let cut = drop-cons s 0 0 in0 in
+      let cut1 = drop-cons s 1 0 in1 in
+      let digit = first.1 in
+      record { within = omega arith; text = simp (lt-ltb a 10 low) (cc) }
+
+  module _ (lead : a ≡ 0 → ⊥) (b : ℕ) (is-b : digit_of (get_or s 1 0) ≡ Some b) where
+    second : (b ≤ 9) × (get_or s 1 0 ≡ 48 + b)
+    second = digit-is _ b is-b
+
+    read-two : get_or s 2 0 ≡ 10 → Read s (valued (a * 10 + b) 3)
     unfolding decimal
-    read_one e =
-        let n : ℕ = digit_of (get_or s 0 0) in
-        let in1 : 1 < length s = there s 1 e in
-        let low : n < 10 = omega arith in
-        let cut : s ≡ get_or s 0 0 ∷ get_or s 1 0 ∷ drop 2 s =
-        drop-cons s 0 0 (omega arith) ∙ ap (λ (l : List ℕ). get_or s 0 0 ∷ l) (drop-cons s 1 0 in1) in
-        let digits : decimal n ≡ (48 + n) ∷ [] = simp (lt-ltb n 10 low) in
+    read-two e =
+        let high : 10 ≤ a * 10 + b = omega arith in
+        let low : a * 10 + b < 100 = omega (arith, first.0, second.0) in
+        let p : (a * 10 + b) / 10 ≡ a = omega (arith, second.0) in
+        let q : (a * 10 + b) % 10 ≡ b = omega (arith, second.0) in
+        let in2 : 2 < length s = there s 2 e in
+        let in1 : 1 < length s = omega arith in
+        let in0 : 0 < length s = omega arith in
+        let cut = drop-cons s 0 0 in0 in
+        let cut1 = drop-cons s 1 0 in1 in
+        let cut2 = drop-cons s 2 0 in2 in
+        let digit = first.1 in
+        let digit2 = second.1 in
         record {
-          some = omega arith;
-          few = omega arith;
-          text =
-              cut
-              ∙ ap (λ (o : ℕ). o ∷ get_or s 1 0 ∷ drop 2 s) (digit-is (get_or s 0 0) digit)
-              ∙ ap (λ (o : ℕ). (48 + n) ∷ o ∷ drop 2 s) e
-              ∙ ap (λ (l : List ℕ). l ++ 10 ∷ drop 2 s) (sym digits);
+          within = omega arith;
+          text = simp (le-ltb (a * 10 + b) 10 high, lt-ltb (a * 10 + b) 100 low, p, q) (cc);
         }
 
-    module _ (lead : digit_of (get_or s 0 0) ≡ 0 → ⊥) (digit2 : digit_of (get_or s 1 0) ≤ 9) where
-      read-two : get_or s 2 0 ≡ 10 → Read s (digit_of (get_or s 0 0) * 10 + digit_of (get_or s 1 0)) 3
+    module _ (d : ℕ) (is-d : digit_of (get_or s 2 0) ≡ Some d) where
+      read-three : get_or s 3 0 ≡ 10 → Read s (valued ((a * 10 + b) * 10 + d) 4)
       unfolding decimal
-      read-two e =
-          let x : ℕ = digit_of (get_or s 0 0) in
-          let y : ℕ = digit_of (get_or s 1 0) in
-          let n : ℕ = x * 10 + y in
-          let in2 : 2 < length s = there s 2 e in
-          let high : 10 ≤ n = omega arith in
-          let low : n < 100 = omega arith in
-          let p : n / 10 ≡ x = omega arith in
-          let q : n % 10 ≡ y = omega arith in
-          let cut : s ≡ get_or s 0 0 ∷ get_or s 1 0 ∷ get_or s 2 0 ∷ drop 3 s =
-          drop-cons s 0 0 (omega arith)
-          ∙ ap (λ (l : List ℕ). get_or s 0 0 ∷ l)
-          (drop-cons s 1 0 (omega arith) ∙ ap (λ (l : List ℕ). get_or s 1 0 ∷ l) (drop-cons s 2 0 in2)) in
-          let digits : decimal n ≡ (48 + x) ∷ (48 + y) ∷ [] = simp (le-ltb n 10 high, lt-ltb n 100 low, p, q) in
+      read-three e =
+          let n : ℕ = (a * 10 + b) * 10 + d in
+          let third = digit-is _ d is-d in
+          let high : 100 ≤ n = omega arith in
+          let ten : 10 ≤ n = omega arith in
+          let p : n / 100 ≡ a = omega (arith, second.0, third.0) in
+          let q : n / 10 % 10 ≡ b = omega (arith, second.0, third.0) in
+          let r : n % 10 ≡ d = omega (arith, third.0) in
+          let in3 : 3 < length s = there s 3 e in
+          let in2 : 2 < length s = omega arith in
+          let in1 : 1 < length s = omega arith in
+          let in0 : 0 < length s = omega arith in
+          let cut = drop-cons s 0 0 in0 in
+          let cut1 = drop-cons s 1 0 in1 in
+          let cut2 = drop-cons s 2 0 in2 in
+          let cut3 = drop-cons s 3 0 in3 in
+          let digit = first.1 in
+          let digit2 = second.1 in
+          let digit3 = third.1 in
           record {
-            some = omega arith;
-            few = omega arith;
-            text =
-                cut
-                ∙ ap (λ (o : ℕ). o ∷ get_or s 1 0 ∷ get_or s 2 0 ∷ drop 3 s) (digit-is (get_or s 0 0) digit)
-                ∙ ap (λ (o : ℕ). (48 + x) ∷ o ∷ get_or s 2 0 ∷ drop 3 s) (digit-is (get_or s 1 0) digit2)
-                ∙ ap (λ (o : ℕ). (48 + x) ∷ (48 + y) ∷ o ∷ drop 3 s) e
-                ∙ ap (λ (l : List ℕ). l ++ 10 ∷ drop 3 s) (sym digits);
+            within = omega arith;
+            text = simp (le-ltb n 10 ten, le-ltb n 100 high, p, q, r) (cc);
           }
 
-      module _ (digit3 : digit_of (get_or s 2 0) ≤ 9) where
-        read-three :
-            get_or s 3 0 ≡ 10 → Read s ((digit_of (get_or s 0 0) * 10 + digit_of (get_or s 1 0)) * 10 + digit_of (get_or s 2 0)) 4
-        unfolding decimal
-        read-three e =
-            let x : ℕ = digit_of (get_or s 0 0) in
-            let y : ℕ = digit_of (get_or s 1 0) in
-            let z : ℕ = digit_of (get_or s 2 0) in
-            let n : ℕ = (x * 10 + y) * 10 + z in
-            let in3 : 3 < length s = there s 3 e in
-            let high : 100 ≤ n = omega arith in
-            let ten : 10 ≤ n = omega arith in
-            let p : n / 100 ≡ x = omega arith in
-            let q : n / 10 % 10 ≡ y = omega arith in
-            let r : n % 10 ≡ z = omega arith in
-            let cut : s ≡ get_or s 0 0 ∷ get_or s 1 0 ∷ get_or s 2 0 ∷ get_or s 3 0 ∷ drop 4 s =
-            drop-cons s 0 0 (omega arith)
-            ∙ ap (λ (l : List ℕ). get_or s 0 0 ∷ l)
-            (drop-cons s 1 0 (omega arith)
-            ∙ ap (λ (l : List ℕ). get_or s 1 0 ∷ l)
-            (drop-cons s 2 0 (omega arith) ∙ ap (λ (l : List ℕ). get_or s 2 0 ∷ l) (drop-cons s 3 0 in3))) in
-            let digits : decimal n ≡ (48 + x) ∷ (48 + y) ∷ (48 + z) ∷ [] =
-            simp (le-ltb n 10 ten, le-ltb n 100 high, p, q, r) in
-            record {
-              some = omega arith;
-              few = omega arith;
-              text =
-                  cut
-                  ∙ ap (λ (o : ℕ). o ∷ get_or s 1 0 ∷ get_or s 2 0 ∷ get_or s 3 0 ∷ drop 4 s) (digit-is (get_or s 0 0) digit)
-                  ∙ ap (λ (o : ℕ). (48 + x) ∷ o ∷ get_or s 2 0 ∷ get_or s 3 0 ∷ drop 4 s) (digit-is (get_or s 1 0) digit2)
-                  ∙ ap (λ (o : ℕ). (48 + x) ∷ (48 + y) ∷ o ∷ get_or s 3 0 ∷ drop 4 s) (digit-is (get_or s 2 0) digit3)
-                  ∙ ap (λ (o : ℕ). (48 + x) ∷ (48 + y) ∷ (48 + z) ∷ o ∷ drop 4 s) e
-                  ∙ ap (λ (l : List ℕ). l ++ 10 ∷ drop 4 s) (sym digits);
-            }
+      third-back : (v : Value) → third_digit (a * 10 + b) (get_or s 2 0) (get_or s 3 0) ≡ Some v → Read s v
+      unfolding third_digit
+      third-back v e =
+          let h = cond_some _ _ v (rw is-d at e) in
+          subst (Read s) h.1 (read-three (eqb-true (get_or s 3 0) 10 h.0))
 
--- a number is malformed, or is read
-decided : (s : List ℕ) → (Malformed ≡ number_of s) ⊎ ((value : ℕ) × (size : ℕ) × (Whole value size ≡ number_of s) × Read s value size)
-decided s =
-    let p : ℕ = get_or s 0 0 in
-    let q : ℕ = get_or s 1 0 in
-    let r : ℕ = get_or s 2 0 in
-    let t : ℕ = get_or s 3 0 in
-    ⊎_elim (λ no. inl (values.none s refl refl no))
-    (λ digit.
-    ⊎_elim (λ e. inr (_, _, values.one s refl refl digit refl e, read_one s digit e))
-    (λ longer.
-    ⊎_elim (λ e. inl (values.zero-first s refl refl digit refl longer e))
-    (λ lead.
-    ⊎_elim (λ no. inl (values.second_none s refl refl digit refl longer lead refl no))
-    (λ digit2.
-    ⊎_elim
-    (λ e.
-    inr (_, _, values.two s refl refl digit refl longer lead refl digit2 refl e, read-two s digit lead digit2 e))
-    (λ longest.
-    ⊎_elim
-    (λ no.
-    inl (values.third-none s refl refl digit refl longer lead refl digit2 refl longest refl no))
-    (λ digit3.
-    ⊎_elim
-    (λ e.
-    inr (
-      _,
-      _,
-      values.three s refl refl digit refl longer lead refl digit2 refl longest refl digit3 refl e,
-      read-three s digit lead digit2 digit3 e,
-    ))
-    (λ no.
-    inl (values.no_end s refl refl digit refl longer lead refl digit2 refl longest refl digit3 refl no))
-    (eq-or-ne t 10))
-    (lt-or-le 9 (digit_of r)))
-    (eq-or-ne r 10))
-    (lt-or-le 9 (digit_of q)))
-    (eq-or-ne (digit_of p) 0))
-    (eq-or-ne q 10))
-    (lt-or-le 9 (digit_of p))
+    second-back : (v : Value) → second_digit a (get_or s 1 0) (get_or s 2 0) (get_or s 3 0) ≡ Some v → Read s v
+    unfolding second_digit third_digit
+    second-back v e =
+        let f = rw is-b at e in
+        either {t = eqb (get_or s 2 0) 10} (λ h. subst (Read s) (same_Some _ v (simp h at f)) (read-two (eqb-true (get_or s 2 0) 10 h)))
+        (λ h. by-third (digit_of (get_or s 2 0)) refl (simp h at f))
+        (eqb (get_or s 2 0) 10) refl
+      where
+        by-third : (o : Option ℕ) → digit_of (get_or s 2 0) ≡ o → third_digit (a * 10 + b) (get_or s 2 0) (get_or s 3 0) ≡ Some v → Read s v
+        by-third None is e = absurd (none-some v (rw is at e))
+        by-third (Some d) is e = third-back d is v e
 
-pub read_back : (s : List ℕ) (value size : ℕ) → number_of s ≡ Whole value size → Read s value size
-read_back s value size e =
-    ⊎_elim (λ no. values.never value size (no ∙ e))
-    (λ w.
-    subst (λ (v : ℕ). Read s v size) (values.same-value w.0 value w.1 size (w.2 ∙ e))
-    (subst (λ (n : ℕ). Read s w.0 n) (values.same_size w.0 value w.1 size (w.2 ∙ e)) w.3))
-    (decided s)
+  first-back : (v : Value) → number_of s ≡ Some v → Read s v
+  unfolding number_by second_digit
+  first-back v e =
+      let f = rw is-a at e in
+      either {t = eqb (get_or s 1 0) 10} (λ h. subst (Read s) (same_Some _ v (simp h at f)) (read_one (eqb-true (get_or s 1 0) 10 h)))
+      (λ long.
+      either {t = eqb a 0} (λ zero. absurd (none-some v (simp (long, zero) at f)))
+      (λ lead. by-second (eqb-false a 0 lead) (digit_of (get_or s 1 0)) refl (simp (long, lead) at f))
+      (eqb a 0) refl)
+      (eqb (get_or s 1 0) 10) refl
+    where
+      by-second :
+          (a ≡ 0 → ⊥)
+          → (o : Option ℕ)
+          → digit_of (get_or s 1 0) ≡ o
+          → second_digit a (get_or s 1 0) (get_or s 2 0) (get_or s 3 0) ≡ Some v
+          → Read s v
+      by-second lead None is e = absurd (none-some v (rw is at e))
+      by-second lead (Some b) is e = second-back lead b is v e
+
+pub read_back : (s : List ℕ) (v : Value) → number_of s ≡ Some v → Read s v
+unfolding number_by
+read_back s v e = by-first (digit_of (get_or s 0 0)) refl
+  where
+    by-first : (o : Option ℕ) → digit_of (get_or s 0 0) ≡ o → Read s v
+    by-first None is = absurd (none-some v (rw is at e))
+    by-first (Some a) is = first-back s a is v e

@@ -11,19 +11,21 @@ use lib.ListN.{length, get_or, drop, set, replicate, length-set, get_or-replicat
 use lib.Seq.{get_or-set_same, get_or-set_other}
 use Rattle.octets.proofs.Order.{lt-or-le, eq-or-ne}
 use Rattle.record.specs.declared.syntax.Record.{Record}
-use Rattle.record.specs.declared.table.Found.TheVariants.{Provisioned, Unprovisioned}
 use Rattle.record.specs.Record.{m_listed, seq_listed, legal, packed, meaning, found_at}
 use Rattle.record.proofs.Listed.{both}
 use Rattle.record.proofs.Packing as packing
 use Rattle.provisioning.specs.declared.line.Kind.{Kind}
 use Rattle.provisioning.specs.declared.line.Kind.TheVariants.{OfCid, OfSyntax, OfM, OfSeq}
 use Rattle.provisioning.specs.declared.line.State.{State}
+use Rattle.refusal.specs.declared.Refusal.{Refusal}
+use Rattle.value.specs.declared.Value.{Value}
 use Rattle.provisioning.specs.Line.{start}
 use Rattle.provisioning.specs.Text.{most_octets, Entry, Reading, refused, taken, before, at_end, after, onwards, walk, filled, table_of}
 use Rattle.provisioning.specs.Back.{line_text, block_text, text_from, text_of_table}
 use Rattle.provisioning.specs.Claims.{text_of, Risen, Rises, TextBack}
 use Rattle.provisioning.proofs.Steps as steps
 use Rattle.provisioning.proofs.Turns as turns
+use Rattle.std.specs.declared.option.Option.TheVariants.{Some, None}
 
 -- the lines of the present block that were read
 abbrev so_far : Kind → ℕ → Record → List ℕ
@@ -43,8 +45,8 @@ record Back (last : ℕ) (st : State) (s : List ℕ) (es : List Entry) : Type 0 
   pub text : so_far st.kind st.cid st.made ++ s ≡ text_of es
   pub rises : Rises last es
 
-never : {A : Type 0} (number line : ℕ) (es : List Entry) → refused number line ≡ taken es → A
-never number line es e = let z : ◌≡◌ {A = ℕ} 0 1 = cc in absurd (omega arith)
+never : {A : Type 0} (refusal : Refusal) (line : ℕ) (es : List Entry) → refused refusal line ≡ taken es → A
+never refusal line es e = let z : ◌≡◌ {A = ℕ} 0 1 = cc in absurd (omega arith)
 
 same : (es fs : List Entry) → taken es ≡ taken fs → es ≡ fs
 same es fs e = cc
@@ -88,45 +90,45 @@ block_back :
     → before (record { cid = cid; made = r }) rest ≡ taken es
     → s ≡ block_text cid r ++ line
     → (s ≡ text_of es) × Rises last es
-block_back cid r line s last es (refused number at) risen lawful later e text = never _ _ es e
+block_back cid r line s last es (refused refusal at) risen lawful later e text = never _ _ es e
 block_back cid r line s last es (taken more) risen lawful later e text =
     let l = later more refl in
     subst (λ (fs : List Entry). (s ≡ text_of fs) × Rises last fs) (same (record { cid = cid; made = r } ∷ more) es e)
     (text ∙ ap (λ (t : List ℕ). block_text cid r ++ t) l.0, (risen, lawful, l.1))
 
 goes_back :
-    (kind : Kind) (cid : ℕ) (made : Record) (s : List ℕ) (v n last : ℕ) (es : List Entry) (rest : State → List ℕ → Reading)
+    (kind : Kind) (cid : ℕ) (made : Record) (s : List ℕ) (v : Value) (last : ℕ) (es : List Entry) (rest : State → List ℕ → Reading)
     → let st : State = record { kind = kind; cid = cid; made = made } in
-    steps.Took st s v n
+    steps.Took st s v
     → Later rest
     → Good kind last cid made
-    → after (steps.next st v) (rest (steps.next st v) (drop n s)) ≡ taken es
+    → after (steps.next st v.value) (rest (steps.next st v.value) (drop v.size s)) ≡ taken es
     → Back last st s es
 unfolding block_text
-goes_back OfCid cid made s v n last es rest took later good e =
+goes_back OfCid cid made s v last es rest took later good e =
     let st : State = record { kind = OfCid; cid = cid; made = made } in
-    let listed = both (leb 4 v) (leb v 255) took.listed in
-    let above : cid < v = leb-false v cid took.above in
-    let risen : Risen last v = record { above = rw (← good) above; from = leb-true 4 v listed.0; to = leb-true v 255 listed.1 } in
-    let b = later (steps.next st v) (drop n s) last es risen e in
+    let listed = both (leb 4 v.value) (leb v.value 255) took.listed in
+    let above : cid < v.value = leb-false v.value cid took.above in
+    let risen : Risen last v.value = record { above = rw (← good) above; from = leb-true 4 v.value listed.0; to = leb-true v.value 255 listed.1 } in
+    let b = later (steps.next st v.value) (drop v.size s) last es risen e in
     record { text = took.text ∙ b.text; rises = b.rises }
-goes_back OfSyntax cid made s v n last es rest took later good e =
+goes_back OfSyntax cid made s v last es rest took later good e =
     let st : State = record { kind = OfSyntax; cid = cid; made = made } in
-    let b = later (steps.next st v) (drop n s) last es good e in
-    record { text = stands_on st s v n took.text ∙ b.text; rises = b.rises }
-goes_back OfM cid made s v n last es rest took later good e =
+    let b = later (steps.next st v.value) (drop v.size s) last es good e in
+    record { text = stands_on st s v.value v.size took.text ∙ b.text; rises = b.rises }
+goes_back OfM cid made s v last es rest took later good e =
     let st : State = record { kind = OfM; cid = cid; made = made } in
-    let b = later (steps.next st v) (drop n s) last es (good, took.listed) e in
-    record { text = stands_on st s v n took.text ∙ b.text; rises = b.rises }
-goes_back OfSeq cid made s v n last es rest took later good e =
+    let b = later (steps.next st v.value) (drop v.size s) last es (good, took.listed) e in
+    record { text = stands_on st s v.value v.size took.text ∙ b.text; rises = b.rises }
+goes_back OfSeq cid made s v last es rest took later good e =
     let st : State = record { kind = OfSeq; cid = cid; made = made } in
-    let listed = both (leb v 1) (seq_listed made.syntax (eqb v 1)) took.listed in
+    let listed = both (leb v.value 1) (seq_listed made.syntax (eqb v.value 1)) took.listed in
     let b =
-    block_back cid (steps.next st v).made (drop n s) (so_far OfSeq cid made ++ s) last es (rest (steps.next st v) (drop n s)) good.0
+    block_back cid (steps.next st v.value).made (drop v.size s) (so_far OfSeq cid made ++ s) last es (rest (steps.next st v.value) (drop v.size s)) good.0
     (rw good.1 listed.1)
-    (λ more h. let l = later (steps.next st v) (drop n s) cid more refl h in (l.text, l.rises))
+    (λ more h. let l = later (steps.next st v.value) (drop v.size s) cid more refl h in (l.text, l.rises))
     e
-    (stands_on st s v n took.text) in
+    (stands_on st s v.value v.size took.text) in
     record { text = b.0; rises = b.1 }
 
 walk-back : (room done : ℕ) → Later (λ st s. walk room st done s)
@@ -136,9 +138,9 @@ walk-back (suc room) done st [] last es good e = end_back st.kind st.cid st.made
 walk-back (suc room) done st (x ∷ xs) last es good e =
     steps.line-cases st (x ∷ xs)
     (λ step. onwards step done (x ∷ xs) (λ next rest. walk room next (done + 1) rest) ≡ taken es → Back last st (x ∷ xs) es)
-    (λ v n took h.
-    goes_back st.kind st.cid st.made (x ∷ xs) v n last es (λ next rest. walk room next (done + 1) rest) took (walk-back room (done + 1)) good h)
-    (λ number h. never _ _ es h)
+    (λ v took h.
+    goes_back st.kind st.cid st.made (x ∷ xs) v last es (λ next rest. walk room next (done + 1) rest) took (walk-back room (done + 1)) good h)
+    (λ refusal h. never _ _ es h)
     e
 
 -- what stands at place j, where d stood before the entries
@@ -166,7 +168,7 @@ absent (e ∷ es) last d j r h =
     let ne : j ≡ e.cid → ⊥ = λ p. omega arith in
     simp (ne_eqb j e.cid ne) (absent es e.cid d j r.2 (omega arith))
 
-zero-means : meaning 0 ≡ Unprovisioned
+zero-means : meaning 0 ≡ None
 zero-means = packing.none_at_zero 0 (omega arith)
 
 -- the text of the CIDs after `last`, where the table holds these entries there
@@ -196,7 +198,7 @@ from_back (suc room) last t (e ∷ es) from all r holds =
     let value : lookup 0 (last + 1) (e ∷ es) ≡ packed e.made =
     simp (eq-eqb (last + 1) e.cid same) (absent es e.cid (packed e.made) (last + 1) r.2 (omega arith)) in
     let here : get_or t (last + 1) 0 ≡ packed e.made = holds (last + 1) (omega arith) (omega arith) ∙ value in
-    let means : meaning (get_or t (last + 1) 0) ≡ Provisioned e.made = ap meaning here ∙ packing.back e.made r.1 in
+    let means : meaning (get_or t (last + 1) 0) ≡ Some e.made = ap meaning here ∙ packing.back e.made r.1 in
     let later =
     from_back room (last + 1) t es (omega arith) (omega arith) (subst (λ (n : ℕ). Rises n es) (sym same) r.2)
     (λ j a b. holds j (omega arith) b ∙ simp (ne_eqb j e.cid (λ p. omega arith))) in

@@ -1,13 +1,15 @@
 -- Every legal text is taken (`LegalTaken` of specs/Claims.antt).
-use Prim.Native.Nat.{ℕ, zero, suc, ◌+◌, ◌*◌, ◌/◌, ◌%◌, ◌<◌, ◌≤◌}
-use mathlib.Core.Path.{◌≡◌, refl, sym, ap, ◌∙◌}
+use Prim.Native.Nat.{ℕ, zero, suc, ◌+◌, ◌-◌, ◌*◌, ◌/◌, ◌%◌, ◌<◌, ◌≤◌}
+use mathlib.Core.Path.{◌≡◌, refl, ap, ◌∙◌}
 use mathlib.Core.List.{List, [], ◌∷◌, ◌++◌, append_assoc}
 use mathlib.Core.Bool.{Bool, true, false, cond, ◌&&◌}
 use mathlib.Core.Logic.{⊎_elim}
 use native.Mathlib.Omega.{arith}
-use borrow.Author.Tests.{lt-ltb, le-ltb, le-leb, lt-leb, eq-eqb}
+use borrow.Author.Tests.{lt-ltb, le-ltb, le-leb, lt-leb, eq-eqb, ne_eqb}
 use lib.Dec.{leb, eqb}
 use lib.ListN.{length, drop, length-append}
+use Rattle.std.specs.declared.option.Option.TheVariants.{Some}
+use Rattle.std.specs.declared.result.Result.TheVariants.{Ok}
 use Rattle.octets.specs.Text.{starts}
 use Rattle.octets.proofs.Order.{lt-or-le}
 use Rattle.record.specs.declared.syntax.Syntax.{Syntax}
@@ -16,18 +18,15 @@ use Rattle.record.specs.declared.syntax.Record.{Record}
 use Rattle.record.specs.Record.{word, place, m_listed, seq_listed, legal}
 use Rattle.record.proofs.Listed.{both}
 use Rattle.record.proofs.Packing.{bit-small, bit-of, place-back, m-small}
-use Rattle.value.specs.declared.Value.TheVariants.{Whole}
 use Rattle.provisioning.specs.declared.line.Kind.{Kind}
 use Rattle.provisioning.specs.declared.line.Kind.TheVariants.{OfCid, OfSyntax, OfM, OfSeq}
 use Rattle.provisioning.specs.declared.line.State.{State}
-use Rattle.provisioning.specs.declared.line.Step.{Step}
-use Rattle.provisioning.specs.declared.line.Step.TheVariants.{Goes}
-use Rattle.value.specs.Value.{digit_of, number_of, word_among, word_of, value_line}
-use Rattle.provisioning.specs.Line.{row, line_at}
-use Rattle.provisioning.specs.Text.{most_octets, Entry, taken, before, after, onwards, walk}
+use Rattle.value.specs.Value.{valued, digit_of, third_digit, second_digit, number_by, number_of, word_among, word_of, value_line}
+use Rattle.provisioning.specs.Line.{row, line_by, line_at}
+use Rattle.provisioning.specs.Line.{taken as taken-line}
+use Rattle.provisioning.specs.Text.{most_octets, Entry, taken, before, after, walk}
 use Rattle.provisioning.specs.Back.{decimal, value_text, line_text, block_text}
 use Rattle.provisioning.specs.Claims.{text_of, Risen, Rises, LegalTaken}
-use Rattle.value.proofs.Values as values
 use Rattle.provisioning.proofs.Lines as lines
 use Rattle.provisioning.proofs.Turns as turns
 
@@ -41,12 +40,13 @@ drop_app : (w s : List ℕ) → drop (length w) (w ++ s) ≡ s
 drop_app [] s = refl
 drop_app (x ∷ xs) s = drop_app xs s
 
-digit-of : (d : ℕ) → d ≤ 9 → d ≡ digit_of (48 + d)
+digit-of : (d : ℕ) → d ≤ 9 → digit_of (48 + d) ≡ Some d
 unfolding digit_of
 digit-of d h =
     let low : 48 ≤ 48 + d = omega arith in
     let high : 48 + d ≤ 57 = omega arith in
-    simp (le-ltb (48 + d) 48 low, le-ltb 57 (48 + d) high) (omega arith)
+    let value : 48 + d - 48 ≡ d = omega arith in
+    simp (le-leb 48 (48 + d) low, le-leb (48 + d) 57 high, value)
 
 -- the digits of a number, by how many
 one-digit : (n : ℕ) → n < 10 → decimal n ≡ (48 + n) ∷ []
@@ -63,51 +63,34 @@ three-digits n h = let ten : 10 ≤ n = omega arith in simp (le-ltb n 10 ten, le
 
 -- a number in decimal digits before an LF is read
 Reads : ℕ → List ℕ → List ℕ → Type 0
-Reads n rest digits = number_of (digits ++ 10 ∷ rest) ≡ Whole n (length digits + 1)
+Reads n rest digits = number_of (digits ++ 10 ∷ rest) ≡ Some (valued n (length digits + 1))
 
 number_read : (n : ℕ) (rest : List ℕ) → n < 1000 → Reads n rest (decimal n)
-unfolding Reads
+unfolding Reads number_by second_digit third_digit
 number_read n rest most =
-    ⊎_elim
-    (λ low.
-    let digit : n ≤ 9 = omega arith in
-    rw (one-digit n low) (sym (values.one ((48 + n) ∷ 10 ∷ rest) refl (digit-of n digit) digit refl refl)))
+    ⊎_elim (λ low. let a = digit-of n (omega arith) in rw (one-digit n low, a))
     (λ ten.
     ⊎_elim
     (λ low.
-    let a : n / 10 ≤ 9 = omega arith in
-    let b : n % 10 ≤ 9 = omega arith in
+    let a = digit-of (n / 10) (omega arith) in
+    let b = digit-of (n % 10) (omega arith) in
     let some : n / 10 ≡ 0 → ⊥ = λ e. omega arith in
     let longer : 48 + n % 10 ≡ 10 → ⊥ = λ e. omega arith in
     let value : n / 10 * 10 + n % 10 ≡ n = omega arith in
     rw (two_digits n ten low)
-    (sym (values.two ((48 + n / 10) ∷ (48 + n % 10) ∷ 10 ∷ rest) refl (digit-of (n / 10) a) a refl longer some (digit-of (n % 10) b) b refl refl)
-    ∙ ap (λ (v : ℕ). Whole v 3) value))
+    (simp (a, b, ne_eqb (48 + n % 10) 10 longer, ne_eqb (n / 10) 0 some, value)))
     (λ hundred.
-    let a : n / 100 ≤ 9 = omega arith in
-    let b : n / 10 % 10 ≤ 9 = omega arith in
-    let d : n % 10 ≤ 9 = omega arith in
+    let a = digit-of (n / 100) (omega arith) in
+    let b = digit-of (n / 10 % 10) (omega arith) in
+    let d = digit-of (n % 10) (omega arith) in
     let some : n / 100 ≡ 0 → ⊥ = λ e. omega arith in
     let longer : 48 + n / 10 % 10 ≡ 10 → ⊥ = λ e. omega arith in
     let longest : 48 + n % 10 ≡ 10 → ⊥ = λ e. omega arith in
     let value : (n / 100 * 10 + n / 10 % 10) * 10 + n % 10 ≡ n = omega arith in
     rw (three-digits n hundred)
-    (sym (values.three ((48 + n / 100) ∷ (48 + n / 10 % 10) ∷ (48 + n % 10) ∷ 10 ∷ rest) refl (digit-of (n / 100) a) a refl longer some (digit-of (n / 10 % 10) b) b refl longest (digit-of (n % 10) d) d refl refl)
-    ∙ ap (λ (v : ℕ). Whole v 4) value))
+    (simp (a, b, d, ne_eqb (48 + n / 10 % 10) 10 longer, ne_eqb (n / 100) 0 some, ne_eqb (48 + n % 10) 10 longest, value)))
     (lt-or-le n 100))
     (lt-or-le n 10)
-
--- a line that goes on
-step-on :
-    (room done : ℕ) (st : State) (line rest : List ℕ)
-    → 0 < length line
-    → (next : State)
-    → line_at st (line ++ rest) ≡ Goes next (length line)
-    → walk (suc room) st done (line ++ rest) ≡ after next (walk room next (done + 1) (drop (length line) (line ++ rest)))
-unfolding walk
-step-on room done st [] rest some next e = absurd (omega arith)
-step-on room done st (x ∷ xs) rest some next e =
-    ap (λ (step : Step). onwards step done (x ∷ xs ++ rest) (λ to left. walk room to (done + 1) left)) e
 
 -- places and bits are listed
 place-listed : (x : Syntax) → (leb 1 (place x) && leb (place x) 7) ≡ true
@@ -126,7 +109,7 @@ bit-listed :
 bit-listed x true e = e
 bit-listed x false e = e
 
-word_read : (x : Syntax) (rest : List ℕ) → word_of (word x ++ 10 ∷ rest) ≡ Whole (place x) (length (word x) + 1)
+word_read : (x : Syntax) (rest : List ℕ) → word_of (word x ++ 10 ∷ rest) ≡ Some (valued (place x) (length (word x) + 1))
 unfolding word_among starts
 word_read Acelp rest = refl
 word_read Pcm rest = refl
@@ -157,7 +140,7 @@ legal-has r e =
 module _ (cid : ℕ) (r : Record) (to : cid ≤ 255) (has : Legal r) where
   value_read :
       (kind : Kind) (rest : List ℕ)
-      → (row kind).read (value_text kind cid r ++ 10 ∷ rest) ≡ Whole (tells kind cid r) (length (value_text kind cid r) + 1)
+      → (row kind).read (value_text kind cid r ++ 10 ∷ rest) ≡ Some (valued (tells kind cid r) (length (value_text kind cid r) + 1))
   unfolding Reads
   value_read OfCid rest = number_read cid rest (omega arith)
   value_read OfSyntax rest = word_read r.syntax rest
@@ -178,7 +161,7 @@ module _ (cid : ℕ) (r : Record) (to : cid ≤ 255) (has : Legal r) where
   line_read :
       (kind : Kind) (rest : List ℕ)
       → value_line (row kind).key (row kind).read (line_text kind cid r ++ rest)
-      ≡ Whole (tells kind cid r) (length (line_text kind cid r))
+      ≡ Some (valued (tells kind cid r) (length (line_text kind cid r)))
   unfolding value_line
   line_read kind rest =
       let k : List ℕ = (row kind).key in
@@ -195,8 +178,11 @@ module _ (cid : ℕ) (r : Record) (to : cid ≤ 255) (has : Legal r) where
   one_line room done st rest listed above =
       let next : State = (row st.kind).told st (tells st.kind cid r) in
       let some : 0 < length (line_text st.kind cid r) = omega (arith, line-length st.kind) in
-      step-on room done st (line_text st.kind cid r) rest some _ (lines.taken st (line_read st.kind rest) listed above)
-      ∙ ap (λ (l : List ℕ). after next (walk room next (done + 1) l)) (drop_app (line_text st.kind cid r) rest)
+      let step : line_at st (line_text st.kind cid r ++ rest) ≡ Ok (taken-line st (valued (tells st.kind cid r) (length (line_text st.kind cid r)))) =
+      ap (line_by st) (line_read st.kind rest) ∙ lines.taken st _ listed above
+      in
+      turns.walk-on room done st (line_text st.kind cid r ++ rest) (omega (arith, length-append (line_text st.kind cid r) rest))
+      ∙ rw (step, drop_app (line_text st.kind cid r) rest)
 
 -- a block's four lines
 block-cut :

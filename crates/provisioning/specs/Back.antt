@@ -1,8 +1,6 @@
 -- The other way: the text of a table (document 01, "Provisioning text").
-use Rattle.std.specs.Prelude.{ℕ, zero, suc, ◌+◌, ◌/◌, ◌%◌, List, [], ◌∷◌, ◌++◌, cond, ltb}
+use Rattle.std.specs.Prelude.{ℕ, zero, suc, ◌+◌, ◌/◌, ◌%◌, List, [], ◌∷◌, ◌++◌, cond, ltb, Option, Some, None}
 use Rattle.record.specs.declared.syntax.Record.{Record}
-use Rattle.record.specs.declared.table.Found.{Found}
-use Rattle.record.specs.declared.table.Found.TheVariants.{Provisioned, Unprovisioned}
 use Rattle.provisioning.specs.declared.line.Kind.{Kind}
 use Rattle.provisioning.specs.declared.line.Kind.TheVariants.{OfCid, OfSyntax, OfM, OfSeq}
 use Rattle.record.specs.Record.{word, found_at}
@@ -30,9 +28,9 @@ line_text kind cid r = (row kind).key ++ (value_text kind cid r ++ lf ∷ [])
 unfoldable pub block_text : ℕ → Record → List ℕ
 block_text cid r = line_text OfCid cid r ++ line_text OfSyntax cid r ++ line_text OfM cid r ++ line_text OfSeq cid r
 
-abbrev pub text_of_found : ℕ → Found → List ℕ
-text_of_found cid (Provisioned r) = block_text cid r
-text_of_found cid Unprovisioned = []
+abbrev pub text_of_found : ℕ → Option Record → List ℕ
+text_of_found cid (Some r) = block_text cid r
+text_of_found cid None = []
 
 -- the blocks of `room` CIDs from `cid` on
 unfoldable pub text_from : ℕ → ℕ → List ℕ → List ℕ

@@ -1,7 +1,6 @@
 -- One line of a provisioning text (document 01, "Provisioning text").
-use Rattle.std.specs.Prelude.{ℕ, List, [], ◌∷◌, Bool, true, false, not, ◌&&◌, leb, eqb}
+use Rattle.std.specs.Prelude.{ℕ, List, [], ◌∷◌, Bool, true, false, not, ◌&&◌, leb, eqb, Option, is_none, unwrap_or, Result, Ok, Err}
 use Rattle.octets.specs.Text.{ascii}
-use Rattle.refusal.specs.Numbers.{line_malformed, value_not_listed, cid_not_rising}
 use Rattle.refusal.specs.Order.{◌gives◌, in_order}
 use Rattle.record.specs.declared.syntax.Syntax.TheVariants.{Acelp}
 use Rattle.record.specs.declared.syntax.Record.{Record}
@@ -11,8 +10,9 @@ use Rattle.provisioning.specs.declared.line.Kind.{Kind}
 use Rattle.provisioning.specs.declared.line.Kind.TheVariants.{OfCid, OfSyntax, OfM, OfSeq}
 use Rattle.provisioning.specs.declared.line.State.{State}
 use Rattle.provisioning.specs.declared.line.Step.{Step}
-use Rattle.provisioning.specs.declared.line.Step.TheVariants.{Goes, Stops}
-use Rattle.value.specs.Value.{number_of, word_of, value_line, malformed, value_in, size_in}
+use Rattle.value.specs.Value.{valued, number_of, word_of, value_line}
+use Rattle.refusal.specs.declared.Refusal.{Refusal}
+use Rattle.refusal.specs.declared.Refusal.TheVariants.{LineMalformed, ValueNotListed, CidNotRising}
 
 -- a line of this kind is due, and these are the CID and the record under way
 abbrev pub due : Kind → ℕ → Record → State
@@ -27,7 +27,7 @@ start = due OfCid 0 (record { syntax = Acelp; m = 1; seq = false })
 pub record Row : Type 0 where
   pub key : List ℕ
   pub begins : Bool
-  pub read : List ℕ → Value
+  pub read : List ℕ → Option Value
   pub listed : Record → ℕ → Bool
   pub told : State → ℕ → State
 
@@ -67,18 +67,23 @@ row OfSeq =
       told = λ st seq. due OfCid st.cid (record { syntax = st.made.syntax; m = st.made.m; seq = eqb seq 1 });
     }
 
+-- A line that is taken.
+abbrev pub taken : State → Value → Step
+taken st v = record { state = (row st.kind).told st v.value; size = v.size }
+
 -- A line with this value, where `st` is due: "tried in this order: 31 wrong key, malformed number or missing LF; 32 value not
 -- listed above; 33 CID not above the one before."
-unfoldable pub line_by : State → Value → Step
+unfoldable pub line_by : State → Option Value → Result Step Refusal
 line_by st value =
+    let v = unwrap_or value (valued 0 0) in
     in_order
-    (malformed value gives line_malformed
-    ∷ not ((row st.kind).listed st.made (value_in value)) gives value_not_listed
-    ∷ ((row st.kind).begins && leb (value_in value) st.cid) gives cid_not_rising
+    (is_none value gives LineMalformed
+    ∷ not ((row st.kind).listed st.made v.value) gives ValueNotListed
+    ∷ ((row st.kind).begins && leb v.value st.cid) gives CidNotRising
     ∷ [])
-    Stops
-    (Goes ((row st.kind).told st (value_in value)) (size_in value))
+    Err
+    (Ok (taken st v))
 
 -- The line that a text starts with, where this is due.
-abbrev pub line_at : State → List ℕ → Step
+abbrev pub line_at : State → List ℕ → Result Step Refusal
 line_at st s = line_by st (value_line (row st.kind).key (row st.kind).read s)

@@ -5,6 +5,7 @@ ghost use Rattle.value.specs.Value.{value_line};
 ghost use Rattle.provisioning.specs.Line.{row, start, line_at};
 
 use record::syntax::{Record, Syntax};
+use refusal::Refusal;
 use value::Value;
 
 // The kinds of lines of a block, in their order.
@@ -25,13 +26,11 @@ pub struct State {
     pub made: Record,
 }
 
-// What a line does.
+// A line that is taken: what is due after it, and the octets that it takes with its LF.
 #[derive(Clone, Copy)]
-pub enum Step {
-    // It is taken: what is due after it, and the octets that it takes with its LF.
-    Goes { state: State, size: usize },
-    // The refusal number.
-    Stops(u8),
+pub struct Step {
+    pub state: State,
+    pub size: usize,
 }
 
 // What is due at the start: a block, on a CID above 0. The record under way is acelp with m 1 and seq 0.
@@ -53,16 +52,11 @@ pub(crate) fn start() -> State
 pub(crate) fn begins(kind: Kind) -> bool
     ensures { result ≡ (row kind).begins }
 {
-    match kind {
-        Kind::OfCid => true,
-        Kind::OfSyntax => false,
-        Kind::OfM => false,
-        Kind::OfSeq => false,
-    }
+    matches!(kind, Kind::OfCid)
 }
 
 // What stands behind the key of this kind.
-fn value_of(s: &[u8], kind: Kind) -> Value
+fn value_of(s: &[u8], kind: Kind) -> Option<Value>
     ensures { result ≡ (row kind).read s.now }
 {
     match kind {
@@ -73,29 +67,25 @@ fn value_of(s: &[u8], kind: Kind) -> Value
     }
 }
 
-// A key, and what stands behind it.
-fn value_line(s: &[u8], key: &[u8], kind: Kind) -> Value
+// A key, and what stands behind it. Always inlined: at each place where it is called the key and the kind are constants.
+#[inline(always)]
+#[tactic(auto, using(crate::proofs::Lines::keyed), unfolding(value::specs::Value::value_line))]
+fn value_line(s: &[u8], key: &[u8], kind: Kind) -> Option<Value>
     ensures { result ≡ value_line key.now (row kind).read s.now }
 {
-    if octets::text::starts(s, key) {
-        let n = key.len();
-        match value_of(&s[n..], kind) {
-            Value::Whole { value, size } => {
-                return Value::Whole {
-                    value,
-                    size: n + size,
-                };
-            }
-            Value::Malformed => {
-                return Value::Malformed;
-            }
-        }
+    if !octets::text::starts(s, key) {
+        return None;
     }
-    Value::Malformed
+    let n = key.len();
+    let behind = value_of(&s[n..], kind)?;
+    Some(Value {
+        value: behind.value,
+        size: n + behind.size,
+    })
 }
 
 // The value of the line of this kind that a text starts with.
-fn value_at(s: &[u8], kind: Kind) -> Value
+fn value_at(s: &[u8], kind: Kind) -> Option<Value>
     ensures { result ≡ value_line (row kind).key (row kind).read s.now }
 {
     match kind {
@@ -110,32 +100,25 @@ fn value_at(s: &[u8], kind: Kind) -> Value
 fn between(low: u16, value: u16, high: u16) -> bool
     ensures { result ≡ (leb low value && leb value high) }
 {
-    if low <= value {
-        return value <= high;
-    }
-    false
+    low <= value && value <= high
 }
 
 // Whether a syntax may have a value as its seq.
 fn bit_listed(syntax: Syntax, value: u16) -> bool
     ensures { result ≡ (leb value 1 && seq_listed syntax (eqb value 1)) }
 {
-    if value <= 1 {
-        return record::syntax::seq_listed(syntax, value == 1);
-    }
-    false
+    value <= 1 && record::syntax::seq_listed(syntax, value == 1)
 }
 
 // Whether document 01 lists a value of this kind, for the record under way.
 fn listed(kind: Kind, made: Record, value: u16) -> bool
     ensures { result ≡ (row kind).listed made value }
 {
-    let syntax = made.syntax;
     match kind {
         Kind::OfCid => between(4, value, 255),
         Kind::OfSyntax => between(1, value, 7),
-        Kind::OfM => record::syntax::m_listed(syntax, value),
-        Kind::OfSeq => bit_listed(syntax, value),
+        Kind::OfM => record::syntax::m_listed(made.syntax, value),
+        Kind::OfSeq => bit_listed(made.syntax, value),
     }
 }
 
@@ -143,78 +126,59 @@ fn listed(kind: Kind, made: Record, value: u16) -> bool
 fn not_above(kind: Kind, value: u8, before: u8) -> bool
     ensures { result ≡ ((row kind).begins && leb value before) }
 {
-    if begins(kind) {
-        return value <= before;
-    }
-    false
+    begins(kind) && value <= before
 }
 
 // What is due after a line with this value.
 fn told(state: State, value: u8) -> State
     ensures { result ≡ (row state.kind).told state value }
 {
-    let kind = state.kind;
-    let cid = state.cid;
     let made = state.made;
-    let syntax = made.syntax;
-    let m = made.m;
-    let seq = made.seq;
-    match kind {
+    match state.kind {
         Kind::OfCid => State {
             kind: Kind::OfSyntax,
             cid: value,
-            made,
+            ..state
         },
         Kind::OfSyntax => State {
             kind: Kind::OfM,
-            cid,
             made: Record {
-                syntax: record::syntax::syntax_at(value as u16),
-                m,
-                seq,
+                syntax: record::syntax::syntax_at(u16::from(value)),
+                ..made
             },
+            ..state
         },
         Kind::OfM => State {
             kind: Kind::OfSeq,
-            cid,
-            made: Record {
-                syntax,
-                m: value,
-                seq,
-            },
+            made: Record { m: value, ..made },
+            ..state
         },
         Kind::OfSeq => State {
             kind: Kind::OfCid,
-            cid,
             made: Record {
-                syntax,
-                m,
                 seq: value == 1,
+                ..made
             },
+            ..state
         },
     }
 }
 
 // The line that a text starts with.
-pub(crate) fn line_at(s: &[u8], state: State) -> Step
+#[tactic(auto, unfolding(crate::specs::Line::line_by))]
+pub(crate) fn line_at(s: &[u8], state: State) -> Result<Step, Refusal>
     ensures { result ≡ line_at state s.now }
 {
-    let kind = state.kind;
-    let made = state.made;
-    match value_at(s, kind) {
-        Value::Malformed => Step::Stops(refusal::LINE_MALFORMED),
-        Value::Whole { value, size } => {
-            if listed(kind, made, value) {
-                let octet = value as u8;
-                if not_above(kind, octet, state.cid) {
-                    return Step::Stops(refusal::CID_NOT_RISING);
-                }
-                return Step::Goes {
-                    state: told(state, octet),
-                    size,
-                };
-            }
-            Step::Stops(refusal::VALUE_NOT_LISTED)
-        }
+    let line = value_at(s, state.kind).ok_or(Refusal::LineMalformed)?;
+    if !listed(state.kind, state.made, line.value) {
+        return Err(Refusal::ValueNotListed);
     }
+    let octet = line.value as u8;
+    if not_above(state.kind, octet, state.cid) {
+        return Err(Refusal::CidNotRising);
+    }
+    Ok(Step {
+        state: told(state, octet),
+        size: line.size,
+    })
 }

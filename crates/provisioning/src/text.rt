@@ -2,63 +2,62 @@
 ghost use Rattle.std.specs.Prelude.{◌≡◌};
 ghost use Rattle.provisioning.specs.Text.{reading, answer, table_after};
 
-use crate::line::Step;
+use refusal::Refusal;
 
 const MOST_OCTETS: usize = 8192;
 
+// A refusal, and the line from 1, or 0 for the whole text.
 #[derive(Clone, Copy)]
-pub enum TextAnswer {
-    // How many blocks the text has.
-    Taken(usize),
-    // The refusal number, and the line from 1, or 0 for the whole text.
-    Refused { number: u8, line: usize },
+pub struct Refused {
+    pub refusal: Refusal,
+    pub line: usize,
 }
 
-// Reads a whole text. The table is written where the text is taken, and is left as it was where it is refused.
-pub fn read_text(text: &[u8], table: &mut [u16; 256]) -> TextAnswer
+// Reads a whole text, and tells how many blocks it has. The table is written where the text is taken, and is left as it was where it
+// is refused.
+pub fn read_text(text: &[u8], table: &mut [u16; 256]) -> Result<usize, Refused>
     ensures says { result ≡ answer (reading text.now) }
     ensures holds { table.new ≡ table_after (reading text.now) table.old }
 {
     if MOST_OCTETS < text.len() {
-        return TextAnswer::Refused {
-            number: refusal::TEXT_TOO_LONG,
+        return Err(Refused {
+            refusal: Refusal::TextTooLong,
             line: 0,
-        };
+        });
     }
     let mut places = [0u16; 256];
     let mut state = crate::line::start();
-    let mut at: usize = 0;
+    let mut rest = text;
     let mut done: usize = 0;
     let mut blocks: usize = 0;
-    while at < text.len() {
-        match crate::line::line_at(&text[at..], state) {
-            Step::Goes { state: next, size } => {
-                state = next;
-                at += size;
+    while !rest.is_empty() {
+        match crate::line::line_at(rest, state) {
+            Ok(line) => {
+                state = line.state;
+                rest = &rest[line.size..];
                 done += 1;
-                let kind = next.kind;
-                if crate::line::begins(kind) {
+                if crate::line::begins(state.kind) {
                     // The last line of a block.
-                    let made = next.made;
-                    places[next.cid as usize] = record::table::pack(made);
+                    places[state.cid as usize] = record::table::pack(state.made);
                     blocks += 1;
                 }
             }
-            Step::Stops(number) => {
-                let line = done + 1;
-                return TextAnswer::Refused { number, line };
+            Err(refusal) => {
+                return Err(Refused {
+                    refusal,
+                    line: done + 1,
+                });
             }
         }
     }
-    let kind = state.kind;
-    if crate::line::begins(kind) {
+    if crate::line::begins(state.kind) {
         *table = places;
-        return TextAnswer::Taken(blocks);
+        return Ok(blocks);
     }
     // The block is cut: the line after the last is missing.
     let missing = done + 1;
-    TextAnswer::Refused {
-        number: refusal::LINE_MALFORMED,
+    Err(Refused {
+        refusal: Refusal::LineMalformed,
         line: missing,
-    }
+    })
 }

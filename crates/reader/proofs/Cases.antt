@@ -3,27 +3,29 @@ use Prim.Native.Nat.{ℕ, ◌+◌, ◌-◌, ◌<◌, ◌≤◌}
 use mathlib.Core.Path.{◌≡◌, sym, ap, ◌∙◌}
 use mathlib.Core.List.{List, []}
 use native.Mathlib.Omega.{arith}
-use borrow.Author.Tests.{lt-ltb, le-ltb, eq-eqb, ne_eqb}
+use borrow.Author.Tests.{lt-ltb, le-ltb}
 use lib.ListN.{length, take, drop}
-use Rattle.refusal.specs.Numbers.{sound}
+use Rattle.std.specs.declared.option.Option.TheVariants.{Some, None}
+use Rattle.refusal.specs.declared.Refusal.{Refusal}
 use Rattle.header.specs.declared.SubFrame.{SubFrame}
-use Rattle.header.specs.declared.Header.{Header}
 use Rattle.header.specs.Header.{header_at, end_of}
 use Rattle.frame.specs.Opening.{opening}
 use Rattle.reader.specs.Reading.{start_of, met, next_of, payload_of, payload_at}
+use Rattle.std.specs.declared.result.Result.{Result}
+use Rattle.std.specs.declared.option.Option.{Option}
 
 module _ (s : List ℕ) where
-  pub sound-start : (opening s).number ≡ sound → start_of s ≡ 0
+  pub sound-start : (opening s).refused ≡ None → start_of s ≡ 0
   unfolding start_of
-  sound-start h = simp (eq-eqb (opening s).number sound h)
+  sound-start h = rw h
 
-  pub refused-start : ((opening s).number ≡ sound → ⊥) → start_of s ≡ length s
+  pub refused-start : (refusal : Refusal) → (opening s).refused ≡ Some refusal → start_of s ≡ length s
   unfolding start_of
-  refused-start h = simp (ne_eqb (opening s).number sound h)
+  refused-start refusal h = rw h
 
-  pub goes_on : (at : ℕ) (h : Header) → header_at s at ≡ h → next_of s at ≡ met h at (length s)
+  pub goes_on : (at : ℕ) (h : Result (Option SubFrame) Refusal) → header_at s at ≡ h → next_of s at ≡ met h at (length s)
   unfolding next_of
-  goes_on at h e = ap (λ (x : Header). met x at (length s)) e
+  goes_on at h e = ap (λ (x : Result (Option SubFrame) Refusal). met x at (length s)) e
 
 -- the payload of a sub-frame of the frame s, which lies at a place: an empty one begins where s does
 module _ (s : List ℕ) (place : ℕ × ℕ) (sub : SubFrame) where

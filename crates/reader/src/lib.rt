@@ -6,21 +6,13 @@
 ghost use Rattle.std.specs.Prelude.{◌≡◌};
 ghost use Rattle.reader.specs.Reading.{start_of, next_of, opened, found, stepped, payload_of, payload_at, nth_of};
 
-use header::{Header, SubFrame};
+use header::SubFrame;
 
-// What a step yields.
-#[derive(Clone, Copy)]
-pub enum Found {
-    Sub(SubFrame),
-    // There is no sub-frame left.
-    NoMore,
-}
-
-// What was found, and the place in the frame from which to go on.
+// What a step yields, if there is a sub-frame left, and the place in the frame from which to go on.
 #[derive(Clone, Copy)]
 pub struct Place {
     pub at: usize,
-    pub found: Found,
+    pub found: Option<SubFrame>,
 }
 
 // A frame reader: the lent frame, and its place in it. Other crates get one from `open` alone.
@@ -35,30 +27,28 @@ pub struct Reader<'a> {
 fn start(frame: &[u8]) -> usize
     ensures { result ≡ start_of frame.now }
 {
-    let checked = frame::check(frame);
-    if checked.number == refusal::SOUND {
-        return 0;
+    if frame::check(frame).is_ok() {
+        0
+    } else {
+        frame.len()
     }
-    frame.len()
 }
 
 // One step for a caller that holds no reader: the sub-frame that begins at a place of a frame, and where it ends. It looks at
 // this one header; where that is refused there is no sub-frame, and the next place is the end.
+#[tactic(auto, unfolding(crate::specs::Reading::next_of))]
 pub fn step_from(frame: &[u8], at: usize) -> Place
     ensures { result ≡ next_of frame.now at }
 {
     match header::header_at(frame, at) {
-        Header::Sub(sub) => Place {
+        Ok(Some(sub)) => Place {
             at: sub.start + sub.len,
-            found: Found::Sub(sub),
+            found: Some(sub),
         },
-        Header::Bad(_) => Place {
+        Ok(None) => Place { at, found: None },
+        Err(_) => Place {
             at: frame.len(),
-            found: Found::NoMore,
-        },
-        Header::Past => Place {
-            at,
-            found: Found::NoMore,
+            found: None,
         },
     }
 }
@@ -80,7 +70,7 @@ pub fn part<'a>(frame: &'a [u8], sub: SubFrame) -> &'a [u8]
     &frame[start..end]
 }
 
-// Opens a frame. A reader of a refused frame stands at its end, and yields nothing: the number and the place of the refusal are
+// Opens a frame. A reader of a refused frame stands at its end, and yields nothing: the refusal and its place are
 // the answer of `frame::check`.
 pub fn open<'a>(frame: &'a [u8]) -> Reader<'a>
     ensures { result ≡ opened frame.entry }
@@ -90,7 +80,7 @@ pub fn open<'a>(frame: &'a [u8]) -> Reader<'a>
 }
 
 // Yields the next sub-frame, and moves the reader past it, or says that there is none.
-pub fn step<'s, 'a>(reader: &'s mut Reader<'a>) -> Found
+pub fn step<'s, 'a>(reader: &'s mut Reader<'a>) -> Option<SubFrame>
     ensures { (result ≡ found reader.old) × (reader.new ≡ stepped reader.old) }
 {
     let next = step_from(reader.frame, reader.at);
@@ -106,15 +96,13 @@ pub fn payload<'a>(reader: Reader<'a>, sub: SubFrame) -> &'a [u8]
 }
 
 // The sub-frame of a frame that a reader yields after n others: there is none where the frame has n or fewer, or is refused.
-pub fn nth(frame: &[u8], n: u8) -> Found
+pub fn nth(frame: &[u8], n: u8) -> Option<SubFrame>
     ensures { result ≡ nth_of frame.now n }
 {
     let mut reader = open(frame);
     let mut found = step(&mut reader);
-    let mut left = n;
-    while 0 < left {
+    for _ in 0..n {
         found = step(&mut reader);
-        left -= 1;
     }
     found
 }

@@ -1,21 +1,23 @@
 -- What a number of the table means, case by case, and that a legal record comes back from its number.
 use Prim.Native.Nat.{ℕ, zero, suc, ◌+◌, ◌*◌, ◌/◌, ◌%◌, ◌<◌, ◌≤◌}
 use mathlib.Core.Path.{◌≡◌, refl, sym, ap, ◌∙◌}
-use mathlib.Core.Bool.{Bool, true, false, cond}
-use mathlib.Core.Logic.{⊎_elim}
+use mathlib.Core.Bool.{Bool, true, false, cond, ◌&&◌}
+use mathlib.Core.Logic.{◌⊎◌, inl, inr, ⊎_elim}
 use mathlib.Core.List.{List}
 use native.Mathlib.Nat.{le_trans}
 use native.Mathlib.Omega.{arith}
-use borrow.Author.Tests.{lt-ltb, le-ltb, eq-eqb, ne_eqb, leb-true}
-use lib.Dec.{leb, eqb}
+use borrow.Author.Tests.{le-ltb, ltb-true, ltb-false, eq-eqb, ne_eqb, leb-true}
+use lib.Dec.{leb, ltb, eqb}
 use lib.ListN.{get_or}
-use Rattle.octets.proofs.Order.{eq-or-ne}
+use Rattle.std.specs.Bool.{then_some}
+use Rattle.octets.proofs.Order.{eq-or-ne, picked}
 use Rattle.record.specs.declared.syntax.Syntax.{Syntax}
 use Rattle.record.specs.declared.syntax.Syntax.TheVariants.{Acelp, Pcm, G727, G728, G7231, Data, Fax}
 use Rattle.record.specs.declared.syntax.Record.{Record}
-use Rattle.record.specs.declared.table.Found.TheVariants.{Provisioned, Unprovisioned}
 use Rattle.record.specs.Record.{most_m, m_listed, seq_listed, legal, place, syntax_at, packed, with_pair, unpacked, meaning, found_at}
 use Rattle.record.proofs.Listed.{most-small, both}
+use Rattle.std.specs.declared.option.Option.{Option}
+use Rattle.std.specs.declared.option.Option.TheVariants.{Some, None}
 
 pub place-range : (x : Syntax) → (1 ≤ place x) × (place x ≤ 7)
 place-range Acelp = (omega arith, omega arith)
@@ -56,16 +58,28 @@ place-forth (suc (suc (suc (suc (suc (suc zero)))))) some most = refl
 place-forth (suc (suc (suc (suc (suc (suc (suc zero))))))) some most = refl
 place-forth (suc (suc (suc (suc (suc (suc (suc (suc at)))))))) some most = absurd (omega arith)
 
+chosen : (b : Bool) (r : Record) → cond b (Some r) None ≡ then_some b r
+chosen true r = refl
+chosen false r = refl
+
+abbrev pub meant : ℕ → Option Syntax → Option Record
+meant n (Some syntax) = then_some (legal (with_pair syntax n)) (with_pair syntax n)
+meant n None = None
+
+one-not : (a b : Bool) → (a && b) ≡ false → (a ≡ false) ⊎ (b ≡ false)
+one-not true b e = inr e
+one-not false b e = inl refl
+
 module _ (n : ℕ) where
-  unlike : (packed (unpacked n) ≡ n → ⊥) → meaning n ≡ Unprovisioned
+  unlike : (packed (unpacked n) ≡ n → ⊥) → meaning n ≡ None
   unfolding meaning
   unlike h = simp (ne_eqb (packed (unpacked n)) n h)
 
-  pub none_at_zero : n < 32 → meaning n ≡ Unprovisioned
+  pub none_at_zero : n < 32 → meaning n ≡ None
   unfolding packed
   none_at_zero h = unlike (λ e. omega (arith, place-range (syntax_at (n / 32))))
 
-  pub none-beyond : 255 < n → meaning n ≡ Unprovisioned
+  none-beyond : 255 < n → meaning n ≡ None
   unfolding packed
   none-beyond h =
       unlike (λ e. omega (arith, place-range (syntax_at (n / 32)), bit-small (eqb (n % 2) 1)))
@@ -78,13 +92,27 @@ module _ (n : ℕ) where
         let low : cond (eqb (n % 2) 1) 1 0 ≡ n % 2 = low_bit (n % 2) (omega arith) in
         rw (high, low) (omega arith)
 
-    pub by-pair :
-        (x : Syntax) (b : Bool)
-        → x ≡ syntax_at (n / 32)
-        → legal (with_pair x n) ≡ b
-        → meaning n ≡ cond b (Provisioned (with_pair x n)) Unprovisioned
+    by-pair : meaning n ≡ then_some (legal (unpacked n)) (unpacked n)
     unfolding meaning
-    by-pair x b is h = rw (← is) (simp (eq-eqb (packed (with_pair x n)) n (rw (← is) at packs), h))
+    by-pair = simp (eq-eqb (packed (unpacked n)) n packs) (chosen (legal (unpacked n)) (unpacked n))
+
+  -- by what stands at the place of the syntax, and then by the pair
+  pub meaning_by :
+      (standing : Option Syntax)
+      → standing ≡ cond (ltb 0 (n / 32) && ltb (n / 32) 8) (Some (syntax_at (n / 32))) None
+      → meaning n ≡ meant n standing
+  meaning_by standing e =
+      rw e
+      (picked (λ x. meaning n ≡ meant n x) (ltb 0 (n / 32) && ltb (n / 32) 8) _ _
+      (λ t.
+      let tests = both (ltb 0 (n / 32)) (ltb (n / 32) 8) t in
+      let low : 0 < n / 32 = ltb-true 0 (n / 32) tests.0 in
+      let high : n / 32 < 8 = ltb-true (n / 32) 8 tests.1 in
+      by-pair (omega arith) (omega arith))
+      (λ t.
+      ⊎_elim (λ z. let low : n / 32 ≤ 0 = ltb-false 0 (n / 32) z in none_at_zero (omega arith))
+      (λ z. let high : 8 ≤ n / 32 = ltb-false (n / 32) 8 z in none-beyond (omega arith))
+      (one-not (ltb 0 (n / 32)) (ltb (n / 32) 8) t)))
 
 -- a legal record comes back from its number
 pub m-small : (r : Record) → legal r ≡ true → r.m ≤ 12
@@ -113,19 +141,15 @@ module _ (r : Record) (is : legal r ≡ true) where
       let three : eqb (n % 2) 1 ≡ r.seq = ap (λ (x : ℕ). eqb x 1) low ∙ bit-of r.seq in
       λ i. record { syntax = one i; m = middle i; seq = three i }
 
-  pub back : meaning (packed r) ≡ Provisioned r
+  pub back : meaning (packed r) ≡ Some r
   unfolding meaning
   back =
       let same : packed (unpacked (packed r)) ≡ packed r = ap packed unpacks in
       let lawful : legal (unpacked (packed r)) ≡ true = ap legal unpacks ∙ is in
-      simp (eq-eqb (packed (unpacked (packed r))) (packed r) same, lawful) (ap Provisioned unpacks)
+      simp (eq-eqb (packed (unpacked (packed r))) (packed r) same, lawful) (ap Some unpacks)
 
 -- what is provisioned on a CID
 module _ (table : List ℕ) (cid : ℕ) where
-  pub no-cid : cid < 4 → found_at table cid ≡ Unprovisioned
-  unfolding found_at
-  no-cid h = simp (lt-ltb cid 4 h)
-
   pub on-cid : 4 ≤ cid → found_at table cid ≡ meaning (get_or table cid 0)
   unfolding found_at
   on-cid h = simp (le-ltb cid 4 h)

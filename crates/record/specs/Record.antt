@@ -1,11 +1,9 @@
 -- Syntaxes, what m and seq each may have, and the numbers of the provisioning table (document 01, "Provisioning text").
-use Rattle.std.specs.Prelude.{ℕ, ◌+◌, ◌*◌, ◌/◌, ◌%◌, List, Bool, true, cond, not, ◌&&◌, ltb, leb, eqb, get_or}
+use Rattle.std.specs.Prelude.{ℕ, ◌+◌, ◌*◌, ◌/◌, ◌%◌, List, Bool, true, cond, not, ◌&&◌, ltb, leb, eqb, get_or, Option, Some, None}
 use Rattle.octets.specs.Text.{ascii}
 use Rattle.record.specs.declared.syntax.Syntax.{Syntax}
 use Rattle.record.specs.declared.syntax.Syntax.TheVariants.{Acelp, Pcm, G727, G728, G7231, Data, Fax}
 use Rattle.record.specs.declared.syntax.Record.{Record}
-use Rattle.record.specs.declared.table.Found.{Found}
-use Rattle.record.specs.declared.table.Found.TheVariants.{Provisioned, Unprovisioned}
 
 -- "Syntax words: acelp, pcm, g727, g728, g7231, data, fax."
 abbrev pub word : Syntax → List ℕ
@@ -77,10 +75,10 @@ abbrev pub unpacked : ℕ → Record
 unpacked n = with_pair (syntax_at (n / 32)) n
 
 -- What a number of the table means: the legal record whose number it is, and no record where it is that of none.
-unfoldable pub meaning : ℕ → Found
+unfoldable pub meaning : ℕ → Option Record
 meaning n =
-    cond (eqb (packed (unpacked n)) n && legal (unpacked n)) (Provisioned (unpacked n)) Unprovisioned
+    cond (eqb (packed (unpacked n)) n && legal (unpacked n)) (Some (unpacked n)) None
 
 -- What is provisioned on a CID: CIDs are 4 to 255.
-unfoldable pub found_at : List ℕ → ℕ → Found
-found_at table cid = cond (ltb cid 4) Unprovisioned (meaning (get_or table cid 0))
+unfoldable pub found_at : List ℕ → ℕ → Option Record
+found_at table cid = cond (ltb cid 4) None (meaning (get_or table cid 0))

@@ -1,9 +1,8 @@
 // A provisioned syntax with its m and seq, and which of them are listed (document 01, "Provisioning text").
-ghost use Rattle.std.specs.Prelude.{◌≡◌, ℕ, ◌/◌, ◌%◌, ◌^◌, cond, ◌&&◌, ltb, eqb};
-ghost use Rattle.record.specs.declared.syntax.Standing.TheVariants.{Listed, NotListed};
+ghost use Rattle.std.specs.Prelude.{◌≡◌, ℕ, ◌/◌, ◌%◌, ◌^◌, cond, ◌&&◌, ltb, eqb, Some, None};
 ghost use Rattle.record.specs.Record.{m_listed, seq_listed, legal, with_pair, place, syntax_at};
 
-#[derive(Clone, Copy)]
+#[derive(Clone, Copy, Debug, PartialEq, Eq)]
 pub enum Syntax {
     Acelp,
     Pcm,
@@ -14,7 +13,7 @@ pub enum Syntax {
     Fax,
 }
 
-#[derive(Clone, Copy)]
+#[derive(Clone, Copy, Debug, PartialEq, Eq)]
 pub struct Record {
     pub syntax: Syntax,
     pub m: u8,
@@ -52,23 +51,14 @@ pub(crate) fn pair_listed(syntax: Syntax, number: u16) -> bool
 pub fn m_listed(syntax: Syntax, m: u16) -> bool
     ensures { result ≡ m_listed syntax m }
 {
-    if 15 < m {
-        return false;
-    }
-    if pair_listed(syntax, m * 2) {
-        return true;
-    }
-    pair_listed(syntax, m * 2 + 1)
+    m < 16 && (pair_listed(syntax, m * 2) || pair_listed(syntax, m * 2 + 1))
 }
 
 // Whether a syntax may have this seq. Every syntax may have m 1, so the pair of m 1 tells.
 pub fn seq_listed(syntax: Syntax, seq: bool) -> bool
     ensures { result ≡ seq_listed syntax seq }
 {
-    if seq {
-        return pair_listed(syntax, 3);
-    }
-    pair_listed(syntax, 2)
+    pair_listed(syntax, 2 + u16::from(seq))
 }
 
 // The place of a syntax in document 01's list, from 1.
@@ -86,35 +76,27 @@ pub fn place_of(syntax: Syntax) -> u16
     }
 }
 
-// What stands at a place of that list.
-#[derive(Clone, Copy)]
-pub(crate) enum Standing {
-    Listed(Syntax),
-    NotListed,
-}
-
 // A place from 1 to 7 has its syntax, and no other place has one.
-pub(crate) fn listed_at(at: u16) -> Standing
-    ensures { result ≡ cond (ltb 0 at && ltb at 8) (Listed (syntax_at at)) NotListed }
+#[tactic(auto, unfolding(crate::specs::Record::syntax_at))]
+pub(crate) fn listed_at(at: u16) -> Option<Syntax>
+    ensures { result ≡ cond (ltb 0 at && ltb at 8) (Some (syntax_at at)) None }
 {
     match at {
-        1 => Standing::Listed(Syntax::Acelp),
-        2 => Standing::Listed(Syntax::Pcm),
-        3 => Standing::Listed(Syntax::G727),
-        4 => Standing::Listed(Syntax::G728),
-        5 => Standing::Listed(Syntax::G7231),
-        6 => Standing::Listed(Syntax::Data),
-        7 => Standing::Listed(Syntax::Fax),
-        _ => Standing::NotListed,
+        1 => Some(Syntax::Acelp),
+        2 => Some(Syntax::Pcm),
+        3 => Some(Syntax::G727),
+        4 => Some(Syntax::G728),
+        5 => Some(Syntax::G7231),
+        6 => Some(Syntax::Data),
+        7 => Some(Syntax::Fax),
+        _ => None,
     }
 }
 
 // The syntax at a place from 1 to 7.
+#[tactic(auto, unfolding(crate::specs::Record::syntax_at))]
 pub fn syntax_at(at: u16) -> Syntax
     ensures { result ≡ syntax_at at }
 {
-    match listed_at(at) {
-        Standing::Listed(syntax) => syntax,
-        Standing::NotListed => Syntax::Fax,
-    }
+    listed_at(at).unwrap_or(Syntax::Fax)
 }

@@ -1,14 +1,13 @@
 -- Looking for an LF by blocks.
-use Prim.Native.Nat.{ℕ, zero, suc, ◌+◌, ◌<◌}
+use Prim.Native.Nat.{ℕ, zero, suc, ◌+◌, ◌-◌, ◌<◌}
 use mathlib.Core.Path.{◌≡◌, refl, sym, ap, ◌∙◌}
 use mathlib.Core.List.{List, [], ◌∷◌, ◌++◌}
 use mathlib.Core.Bool.{Bool, true, false, cond}
 use native.Mathlib.Omega.{arith}
 use native.Mathlib.Numerals.{add-one}
-use borrow.Author.Tests.{eq-eqb, ne_eqb}
 use lib.Dec.{eqb}
-use lib.ListN.{length, get_or, take, drop, length-drop}
-use lib.Seq.{take-suc, take-add, get_or-drop}
+use lib.ListN.{length, take, drop}
+use lib.Seq.{take-add}
 use Rattle.refusal.specs.Order.{◌or◌}
 use Rattle.octets.specs.Text.{has_lf}
 use Rattle.octets.proofs.Texts as texts
@@ -23,36 +22,15 @@ has-append (x ∷ xs) ys = go (eqb x 10) (has-append xs ys)
     go true e = refl
     go false e = e
 
--- one octet more of a block
-module _ (s : List ℕ) (at i : ℕ) (there : at + i < length s) where
-  more : has_lf (take (i + 1) (drop at s)) ≡ (has_lf (take i (drop at s)) or has_lf (get_or s (at + i) 0 ∷ []))
-  more =
-      let within : i < length (drop at s) = omega (arith, length-drop at s) in
-      rw (add-one i, take-suc (drop at s) i 0 within, get_or-drop at s i 0) (has-append (take i (drop at s)) (get_or s (at + i) 0 ∷ []))
-
-  pub found : get_or s (at + i) 0 ≡ 10 → true ≡ has_lf (take (i + 1) (drop at s))
-  unfolding has_lf
-  found h = sym (more ∙ simp (eq-eqb (get_or s (at + i) 0) 10 h) (go (has_lf (take i (drop at s)))))
-    where
-      go : (t : Bool) → (t or true) ≡ true
-      go true = refl
-      go false = refl
-
-  pub passed : (get_or s (at + i) 0 ≡ 10 → ⊥) → has_lf (take i (drop at s)) ≡ has_lf (take (i + 1) (drop at s))
-  unfolding has_lf
-  passed h = sym (more ∙ simp (ne_eqb (get_or s (at + i) 0) 10 h) (go (has_lf (take i (drop at s)))))
-    where
-      go : (t : Bool) → (t or false) ≡ t
-      go true = refl
-      go false = refl
-
 -- a block behind octets without an LF
 pub behind :
     (s : List ℕ) (at size : ℕ) (t : Bool)
     → has_lf (take at s) ≡ false
-    → has_lf (take size (drop at s)) ≡ t
+    → has_lf (take (at + size - at) (drop at s)) ≡ t
     → has_lf (take (at + size) s) ≡ t
-behind s at size t none block = rw (take-add at size s) (has-append (take at s) (take size (drop at s)) ∙ simp none block)
+behind s at size t none block =
+    let long : at + size - at ≡ size = omega arith in
+    rw (take-add at size s) (has-append (take at s) (take size (drop at s)) ∙ simp none (rw long at block))
 
 -- the LF behind octets without one ends the line
 pub ends :

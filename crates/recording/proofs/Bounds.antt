@@ -20,12 +20,5 @@ fits out after text holds same =
     omega arith
 
 -- the text ends within the octets looked at
-pub text-ends : (s : List ℕ) (n end : ℕ) → n ≤ length s → end ≡ text_end (take n s) → end ≤ n
-text-ends s n end h e = omega (arith, ends.text-within true (take n s), length-take-le n s h)
-
--- a piece from a place on
-abbrev pub rest : List ℕ → ℕ → List ℕ
-rest piece at = take (length piece - at) (drop at piece)
-
-pub rest-size : (piece : List ℕ) (at : ℕ) → length (rest piece at) ≡ length piece - at
-rest-size piece at = length-take-le (length piece - at) (drop at piece) (omega (arith, length-drop at piece))
+pub text_ends : (s : List ℕ) (n end : ℕ) → n ≤ length s → end ≡ text_end (take n s) → end ≤ n
+text_ends s n end h e = omega (arith, ends.text-within true (take n s), length-take-le n s h)

@@ -8,7 +8,6 @@ use native.Mathlib.Omega.{arith}
 use lib.ListN.{length, take, drop}
 use lib.Seq.{take-take, length-take-le, take-append_seam, drop-append-le}
 use Rattle.octets.proofs.Order.{lt-or-le}
-use Rattle.refusal.specs.Numbers.{text_too_long}
 use Rattle.provisioning.specs.Text.{Reading, refused, taken, Entry, reading, table_of}
 use Rattle.provisioning.proofs.Turns as texts
 use Rattle.recording.specs.Pieces.{text_end, line_ends}
@@ -18,9 +17,10 @@ use Rattle.recording.specs.Claims.{FirstPieceDecides, FirstPieceEnds, PiecesPrin
 use Rattle.recording.proofs.Ends as ends
 use Rattle.recording.proofs.TextStart as text
 use Rattle.recording.proofs.Joins as joins
+use Rattle.refusal.specs.declared.Refusal.TheVariants.{TextTooLong}
 
 -- a text over 8,192 octets
-too_long : (s : List ℕ) → 8192 < text_end s → text_read s ≡ refused text_too_long 0
+too_long : (s : List ℕ) → 8192 < text_end s → text_read s ≡ refused TextTooLong 0
 too_long s h =
     texts.too_long (take (text_end s) s) (omega (arith, length-take-le (text_end s) s (ends.text-within true s)))
 
@@ -37,7 +37,7 @@ module _ (input : List ℕ) (n : ℕ) (room : 8198 ≤ n) where
 
   never : (es : List Entry) → n < text_end input + 6 → text_read input ≡ taken es → text_end (take n input) ≡ text_end input
   never es h e =
-      let long : text_read input ≡ refused text_too_long 0 = too_long input (omega arith) in
+      let long : text_read input ≡ refused TextTooLong 0 = too_long input (omega arith) in
       let z : ◌≡◌ {A = ℕ} 0 1 = cc in
       absurd (omega arith)
 
@@ -83,7 +83,7 @@ pieces-print S p room kept first pieces by-start enough size large few =
         → text_read (first ++ whole pieces) ≡ r
         → behind_text p r room kept (drop (text_end first) first ∷ pieces)
         ≡ after_text p r (drop (text_end (first ++ whole pieces)) (first ++ whole pieces))
-    go (refused number line) e = refl
+    go (refused refusal line) e = refl
     go (taken es) e =
         let rest : drop (text_end first) first ++ whole pieces ≡ drop (text_end (first ++ whole pieces)) (first ++ whole pieces) =
         sym (drop-append-le (text_end first) first (whole pieces) (ends.text-within true first))

@@ -10,12 +10,12 @@ use lib.Dec.{eqb}
 use lib.ListN.{length, get_or, take}
 use lib.Seq.{take_all, get_or-take, length-take-le}
 use Rattle.octets.proofs.Order.{lt-or-le, eq-or-ne, either}
-use Rattle.refusal.specs.Numbers.{field_too_long}
 use Rattle.octets.specs.Text.{starts}
 use Rattle.hexline.specs.Line.{frame_key, refused, line_read}
 use Rattle.recording.specs.Pieces.{line_size}
 use Rattle.recording.specs.Claims.{StartTells}
 use Rattle.hexline.proofs.LineCases as cases
+use Rattle.refusal.specs.declared.Refusal.TheVariants.{FieldTooLong}
 
 -- a text starts with a word where its first octets do
 pub starts-take : (k : ℕ) (s w : List ℕ) → length w ≤ k → starts (take k s) w ≡ starts s w
@@ -55,12 +55,12 @@ module _ (line : List ℕ) (one : line_size line ≡ length line) (long : 3207 <
       let there : get_or (take 3207 line) 3206 0 ≡ 10 = rw place at lf in
       no-lf line 3206 one (omega arith) (sym (get_or-take 3207 line 3206 0 (omega arith)) ∙ there)
 
-  too_long : starts line frame_key ≡ true → line_read line ≡ refused field_too_long
+  too_long : starts line frame_key ≡ true → line_read line ≡ refused FieldTooLong
   too_long keyed =
       ⊎_elim (λ lf. cases.long line keyed lf (omega arith)) (λ none. cases.long-cut line keyed none (omega arith))
       (eq-or-ne (get_or line (length line - 1) 0) 10)
 
-  cut-too-long : starts line frame_key ≡ true → line_read (take 3207 line) ≡ refused field_too_long
+  cut-too-long : starts line frame_key ≡ true → line_read (take 3207 line) ≡ refused FieldTooLong
   cut-too-long keyed =
       cases.long-cut (take 3207 line) (starts-take 3207 line frame_key (omega arith) ∙ keyed) last (omega (arith, size))
 

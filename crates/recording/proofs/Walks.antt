@@ -4,22 +4,24 @@ use mathlib.Core.Path.{◌≡◌, refl, sym, ap, ◌∙◌}
 use mathlib.Core.List.{List, [], ◌∷◌, ◌++◌, append_assoc, append-nil}
 use mathlib.Core.Bool.{Bool, true, false, cond}
 use native.Mathlib.Omega.{arith}
-use borrow.Author.Tests.{lt-ltb, le-ltb, eq-eqb, ne_eqb}
+use borrow.Author.Tests.{lt-ltb, le-ltb, ltb-false, eq-eqb, ne_eqb}
 use lib.Dec.{ltb}
 use lib.ListN.{length, take, drop, length-append, length-drop, drop_of_length-le}
 use lib.Seq.{drop-drop}
+use Rattle.std.specs.Prelude.{IfSome, IfOk, Option, Some, None, Result}
+use Rattle.refusal.specs.declared.Refusal.{Refusal}
+use Rattle.octets.proofs.Order.{either}
 use Rattle.octets.specs.Room.{written}
 use Rattle.octets.specs.Text.{has_lf}
 use Rattle.octets.proofs.Writes as writes
 use Rattle.recording.specs.declared.stream.Begun.{Begun}
 use Rattle.recording.specs.declared.stream.Taken.{Taken}
 use Rattle.recording.specs.Pieces.{line_size}
-use Rattle.hexline.specs.Line.{Held, octets, line_read, in_room, read_of}
+use Rattle.hexline.specs.Line.{Held, octets, refused, line_read, in_room, read_of}
 use Rattle.recording.specs.Stream.{line_of, next_of, kept_behind}
 use Rattle.recording.specs.Stream.{taken as line_taken}
 use Rattle.recording.specs.Walk.{Tell, Told, Walk, stopped, before, nothing, next_told, walk, piece_told, last_told}
 use Rattle.recording.proofs.Ends as ends
-use Rattle.hexline.proofs.LineCases as cases
 
 module _ {S : Type 0} where
   before-none : (w : Walk S) → before [] 0 w ≡ w
@@ -34,9 +36,13 @@ module _ {S : Type 0} where
       cc
 
 -- the octets of a line that is taken stand in the room for a frame
-held_fits : (t : Bool) (room : ℕ) (held : Held) → (read_of (cond t (in_room room held) (octets []))).octets ≤ room
-held_fits true room held = cases.fits room held
-held_fits false room held = omega arith
+abbrev pub Fits : ℕ → Option (Result ℕ Refusal) → Type 0
+Fits room line = IfSome line (λ read. IfOk read (λ size. size ≤ room))
+
+held_fits : (t : Bool) (room : ℕ) (held : Held) → Fits room (cond t (Some (read_of (cond t (in_room room held) (octets [])))) None)
+held_fits true room (octets s) = either {t = ltb room (length s)} (λ e. rw e tt) (λ e. rw e (ltb-false room (length s) e)) (ltb room (length s)) refl
+held_fits true room (refused refusal) = tt
+held_fits false room held = tt
 
 -- What the code of a program promises of a walk: the octets taken, the octets written, how the next line stands, the state, and
 -- both lent rooms.
@@ -152,7 +158,7 @@ module _ {S : Type 0} (tell : Tell S) (most : ℕ) where
         size_is : line.size ≡ line_size (drop at piece)
         size_is = ap (λ (l : Taken). l.size) tells
 
-        pub fits-frame : line.read.octets ≤ length frame
+        pub fits-frame : Fits (length frame) line.line
         fits-frame =
             rw tells (held_fits (has_lf (drop at piece)) (length frame) (line_read (line_of begun.have kept (drop at piece))))
 

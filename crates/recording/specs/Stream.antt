@@ -1,6 +1,6 @@
 -- A recording piece by piece, in fixed memory: a line that a piece has whole is read from it, one that goes on is kept until it is
 -- whole; every line takes a number, refused or not (document 01, "Listing program": "frame number from 0").
-use Rattle.std.specs.Prelude.{ℕ, ◌+◌, List, [], cond, ◌&&◌, ltb, eqb, length, take}
+use Rattle.std.specs.Prelude.{ℕ, ◌+◌, List, [], cond, ◌&&◌, ltb, eqb, length, take, Some, None}
 use Rattle.octets.specs.Room.{written}
 use Rattle.octets.specs.Text.{has_lf}
 use Rattle.recording.specs.declared.stream.Begun.{Begun}
@@ -45,7 +45,6 @@ abbrev pub taken : ℕ → Begun → List ℕ → List ℕ → Taken
 taken room begun kept piece =
     record {
       size = line_size piece;
-      whole = has_lf piece;
-      read = read_of (held_by room begun.have kept piece);
+      line = cond (has_lf piece) (Some (read_of (held_by room begun.have kept piece))) None;
       next = next_of begun kept piece;
     }

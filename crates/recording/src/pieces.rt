@@ -4,7 +4,6 @@ ghost use Rattle.octets.specs.Room.{written};
 ghost use Rattle.octets.specs.Text.{has_lf};
 ghost use Rattle.recording.specs.Pieces.{text_end, line_end, to_keep, keeping};
 
-use octets::Put;
 use octets::text::LF;
 
 // A line: its octets, and whether it ends with an LF.
@@ -26,34 +25,14 @@ pub struct Kept {
 pub fn text_end(s: &[u8]) -> usize
     ensures { result ≡ text_end s.now }
 {
-    let mut at: usize = 0;
     let mut begins = true;
-    while at < s.len() {
-        if begins {
-            if octets::text::starts(&s[at..], b"frame=") {
-                return at;
-            }
+    for (at, octet) in s.iter().enumerate() {
+        if begins && octets::text::starts(&s[at..], b"frame=") {
+            return at;
         }
-        begins = s[at] == LF;
-        at += 1;
+        begins = *octet == LF;
     }
-    at
-}
-
-// Whether an LF is among so many octets from a place on. The loop has one way out, so that the compiler takes many octets at a time.
-fn block_has_lf(s: &[u8], at: usize, size: usize) -> bool
-    requires { at + size ≤ length s.now }
-    ensures { result ≡ has_lf (take size (drop at s.now)) }
-{
-    let mut found = false;
-    let mut i: usize = 0;
-    while i < size {
-        if s[at + i] == LF {
-            found = true;
-        }
-        i += 1;
-    }
-    found
+    s.len()
 }
 
 // Passes blocks of so many octets, from a place before which there is no LF, up to one that has an LF, or to where no block is left.
@@ -66,8 +45,9 @@ fn pass_blocks(s: &[u8], from: usize, size: usize) -> usize
     ensures stops { result + size ≤ length s.now → has_lf (take (result + size) s.now) ≡ true }
 {
     let mut at = from;
+    // Stays a `while`: `position` would look octet by octet, and `contains` tells no place.
     while size <= s.len() - at {
-        if block_has_lf(s, at, size) {
+        if octets::text::has_lf(&s[at..at + size]) {
             return at;
         }
         at += size;
@@ -99,21 +79,13 @@ pub(crate) fn keep(kept: &mut [u8], have: usize, piece: &[u8]) -> Kept
     ensures says { result ≡ keeping (length kept.old) have piece.now }
     ensures holds { kept.new ≡ written kept.old have (to_keep (length kept.old) have piece.now) }
 {
-    let line = line_end(piece);
-    let taken = line.size;
-    let whole = line.whole;
+    let Line { size: taken, whole } = line_end(piece);
     let room = kept.len();
     if room <= have {
         return Kept { taken, have, whole };
     }
     let n = octets::least(room - have, taken);
-    match octets::put_octets(kept, have, &piece[..n]) {
-        Put::Written(next) => Kept {
-            taken,
-            have: next,
-            whole,
-        },
-        // The room is there.
-        Put::NotWritten(_) => Kept { taken, have, whole },
-    }
+    // The room is there.
+    let have = octets::put_octets(kept, have, &piece[..n]).unwrap_or(have);
+    Kept { taken, have, whole }
 }

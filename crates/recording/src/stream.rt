@@ -4,7 +4,7 @@ ghost use Rattle.octets.specs.Room.{written};
 ghost use Rattle.hexline.specs.Line.{octets_of};
 ghost use Rattle.recording.specs.Stream.{next_number, held_by, kept_behind, taken};
 
-use hexline::Read;
+use refusal::Refusal;
 
 // The room for the present line: the octets that decide what it holds (`StartTells`), that is `frame=`, 3,200 characters, and one
 // more.
@@ -17,24 +17,21 @@ pub struct Begun {
     pub number: u64,
 }
 
-// What taking a line from a piece tells: the octets of the piece that it takes; whether the line is whole with them; what it holds,
-// where it is; and how the next line stands.
+// What taking a line from a piece tells: the octets of the piece that it takes; what the line holds, or `None` where it goes on behind
+// the piece; and how the next line stands.
 #[derive(Clone, Copy)]
 pub struct Taken {
     pub size: usize,
-    pub whole: bool,
-    pub read: Read,
+    pub line: Option<Result<usize, Refusal>>,
     pub next: Begun,
 }
 
 // The frame number after this one. The last of 64 bits stays.
+#[tactic(auto, unfolding(crate::specs::Stream::next_number))]
 fn after(number: u64) -> u64
     ensures { result ≡ next_number number }
 {
-    if number < u64::MAX {
-        return number + 1;
-    }
-    number
+    number.saturating_add(1)
 }
 
 // Takes the line that a piece starts or goes on with. The octets of its frame stand at the start of `frame` where it is whole; where
@@ -44,21 +41,17 @@ pub fn take_line(piece: &[u8], begun: Begun, kept: &mut [u8; MOST_KEPT], frame: 
     ensures keeps { kept.new ≡ kept_behind begun.have kept.old piece.now }
     ensures holds { frame.new ≡ written frame.old 0 (octets_of (held_by (length frame.old) begun.have kept.old piece.now)) }
 {
-    let have = begun.have;
+    let Begun { have, number } = begun;
     if have == 0 {
         let own = crate::pieces::line_end(piece);
         if own.whole {
-            let size = own.size;
-            let read = hexline::read_line(&piece[..size], frame);
-            let next = Begun {
-                have: 0,
-                number: after(begun.number),
-            };
             return Taken {
-                size,
-                whole: true,
-                read,
-                next,
+                size: own.size,
+                line: Some(hexline::read_line(&piece[..own.size], frame)),
+                next: Begun {
+                    have: 0,
+                    number: after(number),
+                },
             };
         }
     }
@@ -66,30 +59,21 @@ pub fn take_line(piece: &[u8], begun: Begun, kept: &mut [u8; MOST_KEPT], frame: 
     if line.whole {
         let room: &[u8] = kept;
         let end = octets::least(line.have, room.len());
-        let read = hexline::read_line(&room[..end], frame);
-        let next = Begun {
-            have: 0,
-            number: after(begun.number),
-        };
         return Taken {
             size: line.taken,
-            whole: true,
-            read,
-            next,
+            line: Some(hexline::read_line(&room[..end], frame)),
+            next: Begun {
+                have: 0,
+                number: after(number),
+            },
         };
     }
-    let next = Begun {
-        have: line.have,
-        number: begun.number,
-    };
-    let read = Read {
-        number: refusal::SOUND,
-        octets: 0,
-    };
     Taken {
         size: line.taken,
-        whole: false,
-        read,
-        next,
+        line: None,
+        next: Begun {
+            have: line.have,
+            number,
+        },
     }
 }

@@ -1,75 +1,57 @@
-// The refusal numbers of document 01, "Refusal numbers", and those of document 02, each named once for the code;
-// specs/Numbers.antt names them for the definitions, with the documents' words for each.
+// The refusals of document 01, "Refusal numbers", and of document 02.
 #![tactic(auto)]
 
+ghost use Rattle.std.specs.Prelude.{◌≡◌};
+ghost use Rattle.refusal.specs.Numbers.{number};
+
+// What is answered where nothing is refused.
 pub const SOUND: u8 = 0;
 
-pub const FIELD_EMPTY: u8 = 1;
+// Each refusal with its number; specs/Numbers.antt has the documents' words for each.
+#[derive(Clone, Copy, Debug, PartialEq, Eq)]
+pub enum Refusal {
+    FieldEmpty = 1,
+    FieldTooLong = 2,
+    HeaderCut = 3,
+    CidReserved = 4,
+    SpareBitSet = 5,
+    LengthPastField = 6,
+    LastWithLength = 7,
+    TooManySubFrames = 8,
+    HexMalformed = 9,
+    NotProvisioned = 11,
+    TypeNotAllowed = 12,
+    LengthWrong = 13,
+    ReservedCode = 14,
+    ValueOutOfRange = 15,
+    CodingTypeUnknown = 16,
+    EdgeWithoutChange = 17,
+    StateNotAllowed = 18,
+    OlderPayload = 19,
+    RoomTooSmall = 21,
+    TooLongNotLast = 22,
+    FrameFull = 23,
+    AlreadyLast = 24,
+    LineMalformed = 31,
+    ValueNotListed = 32,
+    CidNotRising = 33,
+    TextTooLong = 34,
+    NoModulation = 41,
+    AgainstModulation = 42,
+    SizeOutOfRange = 43,
+    FragmentOutOfPlace = 44,
+    CodingNotConverted = 45,
+    RunTooLong = 46,
+    NothingKept = 47,
+    SyntaxOutsideProfile = 48,
+    MOutsideProfile = 49,
+}
 
-pub const FIELD_TOO_LONG: u8 = 2;
-
-pub const HEADER_CUT: u8 = 3;
-
-pub const CID_RESERVED: u8 = 4;
-
-pub const SPARE_BIT_SET: u8 = 5;
-
-pub const LENGTH_PAST_FIELD: u8 = 6;
-
-pub const LAST_WITH_LENGTH: u8 = 7;
-
-pub const TOO_MANY_SUB_FRAMES: u8 = 8;
-
-pub const HEX_MALFORMED: u8 = 9;
-
-pub const NOT_PROVISIONED: u8 = 11;
-
-pub const TYPE_NOT_ALLOWED: u8 = 12;
-
-pub const LENGTH_WRONG: u8 = 13;
-
-pub const RESERVED_CODE: u8 = 14;
-
-pub const VALUE_OUT_OF_RANGE: u8 = 15;
-
-pub const CODING_TYPE_UNKNOWN: u8 = 16;
-
-pub const EDGE_WITHOUT_CHANGE: u8 = 17;
-
-pub const STATE_NOT_ALLOWED: u8 = 18;
-
-pub const OLDER_PAYLOAD: u8 = 19;
-
-pub const ROOM_TOO_SMALL: u8 = 21;
-
-pub const TOO_LONG_NOT_LAST: u8 = 22;
-
-pub const FRAME_FULL: u8 = 23;
-
-pub const ALREADY_LAST: u8 = 24;
-
-pub const LINE_MALFORMED: u8 = 31;
-
-pub const VALUE_NOT_LISTED: u8 = 32;
-
-pub const CID_NOT_RISING: u8 = 33;
-
-pub const TEXT_TOO_LONG: u8 = 34;
-
-pub const NO_MODULATION: u8 = 41;
-
-pub const AGAINST_MODULATION: u8 = 42;
-
-pub const SIZE_OUT_OF_RANGE: u8 = 43;
-
-pub const FRAGMENT_OUT_OF_PLACE: u8 = 44;
-
-pub const CODING_NOT_CONVERTED: u8 = 45;
-
-pub const RUN_TOO_LONG: u8 = 46;
-
-pub const NOTHING_KEPT: u8 = 47;
-
-pub const SYNTAX_OUTSIDE_PROFILE: u8 = 48;
-
-pub const M_OUTSIDE_PROFILE: u8 = 49;
+impl Refusal {
+    // The documents' number of a refusal.
+    pub fn number(self) -> u8
+        ensures { result ≡ number self }
+    {
+        self as u8
+    }
+}

@@ -11,13 +11,14 @@ use borrow.Author.Tests.{lt-ltb, le-ltb, ltb-true}
 use lib.Dec.{ltb}
 use lib.ListN.{length, length-map, get_or, replicate}
 use Rattle.octets.proofs.Order.{lt-or-le}
-use Rattle.refusal.specs.Numbers.{sound, older_payload}
+use Rattle.refusal.specs.Numbers.{sound, number}
 use Rattle.counts.specs.Round.{step}
 use Rattle.counts.proofs.Laws.{laws}
 use Rattle.replay.specs.Rule.{older, fill_count}
 use Rattle.replay.specs.Periods.{Payload, pay, Mark, filled, carried, told, held_at, covered, cell, range, first_of, last_from, span_of, fresh_from, fresh_of, due_from, due_of, BehindFrom, Behind}
 use Rattle.replay.specs.Claims.{Receiver, record_of, by_step, step_of, Takes, Passes, Leaves, Meets, Acts, ByRule, Told, joined_to, brought_by, answer_to, answers_of, Replays, Replay, SecondKeeps, TwoReceivers}
 use Rattle.replay.proofs.Ranges.{map-append, map-replicate, length-range, range-append, map_range, map-constant, inside, outside, here, before, beyond, last-low, none_before, none-beyond, covers_more, Chain, Close, close}
+use Rattle.refusal.specs.declared.Refusal.TheVariants.{OlderPayload}
 
 cell-true : {A : Type 0} (S : ℕ → A) (arrivals : List ℕ) (j : ℕ) → covered arrivals j ≡ true → cell S arrivals j ≡ some (S j)
 cell-true S arrivals j e = simp e
@@ -198,13 +199,13 @@ module _ {A : Type 0} (k far : ℕ) (r : Receiver A) (brings : r.Event → Optio
       → Chain gap a (fresh_from a bs)
       → BehindFrom back a bs
       → brought_by brings es ≡ map (pay k S) bs
-      → Shows s (e ∷ es) (fresh_from a bs) (a + 3) (last_from a (fresh_from a bs) - a) × Answers s e (some (pay k S b)) es (older_payload ∷ due_from a bs)
+      → Shows s (e ∷ es) (fresh_from a bs) (a + 3) (last_from a (fresh_from a bs) - a) × Answers s e (some (pay k S b)) es (number OlderPayload ∷ due_from a bs)
   later-leaves e es after s a b bs left heard last chain behind brought =
       let rest = after s a bs heard last chain behind brought in (
         ap (λ (x : List (Mark A)). map told (x ++ record_of r (r.after s e) es)) left.appends
             ∙ ap (λ (x : r.State). map told (record_of r x es)) left.stands
             ∙ rest.0,
-        answer s e (pay k S b) es older_payload (due_from a bs) left.number (ap (λ (x : r.State). answers_of r brings x es) left.stands ∙ rest.1),
+        answer s e (pay k S b) es (number OlderPayload) (due_from a bs) left.number (ap (λ (x : r.State). answers_of r brings x es) left.stands ∙ rest.1),
       )
 
   -- by whether b is behind
@@ -218,7 +219,7 @@ module _ {A : Type 0} (k far : ℕ) (r : Receiver A) (brings : r.Event → Optio
       → BehindFrom back (cond t a b) bs
       → brought_by brings es ≡ map (pay k S) bs
       → Shows s (e ∷ es) (cond t (fresh_from a bs) (b ∷ fresh_from b bs)) (a + 3) (last_from a (cond t (fresh_from a bs) (b ∷ fresh_from b bs)) - a)
-      × Answers s e (some (pay k S b)) es (cond t (older_payload ∷ due_from a bs) (sound ∷ due_from b bs))
+      × Answers s e (some (pay k S b)) es (cond t (number OlderPayload ∷ due_from a bs) (sound ∷ due_from b bs))
   later-meets e es after s a b bs true is meets heard last chain near behind brought =
       let step-here : ℕ = step k (r.last s) (b % 2 ^ k) in
       let late : older far (step_of k r s (pay k S b)) ≡ true = rw heard (lt-ltb far step-here (step_back (r.last s) a b last (ltb-true b a is) near)) in

@@ -3,10 +3,11 @@
 -- reads it). `Replay` says it of one receiver, `TwoReceivers` of two. Proved in proofs/Replay.antt.
 use Rattle.std.specs.Prelude.{ℕ, ◌+◌, ◌%◌, ◌^◌, ◌<◌, ◌≤◌, ◌≡◌, List, [], ◌∷◌, ◌++◌, map, Bool, true, false, length, replicate}
 use Rattle.std.proofs.Math.Option.{Option, none, some}
-use Rattle.refusal.specs.Numbers.{sound, older_payload}
+use Rattle.refusal.specs.Numbers.{sound, number}
 use Rattle.counts.specs.Round.{step}
 use Rattle.replay.specs.Rule.{step_taken, older, fill_count, newest}
 use Rattle.replay.specs.Periods.{Payload, pay, Mark, filled, carried, told, held_at, cell, range, first_of, span_of, fresh_of, due_of, sound_of, Near, Behind, Among}
+use Rattle.refusal.specs.declared.Refusal.TheVariants.{OlderPayload}
 
 -- A receiver: whether it has heard a payload, the last sequence, and the number that it answers to an event (a payload, or anything
 -- else), what that appends to its record and leaves as its state. A state may hold more than these two.
@@ -48,7 +49,7 @@ pub record Passes {A : Type 0} (k : ℕ) (r : Receiver A) (s : r.State) (e : r.E
 
 -- An older payload changes nothing: the whole state stands.
 pub record Leaves {A : Type 0} (r : Receiver A) (s : r.State) (e : r.Event) : Type 0 where
-  pub number : r.number s e ≡ older_payload
+  pub number : r.number s e ≡ number OlderPayload
   pub appends : r.appends s e ≡ []
   pub stands : r.after s e ≡ s
 

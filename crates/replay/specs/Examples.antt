@@ -2,11 +2,12 @@
 -- Proved in proofs/Examples.antt.
 use Rattle.std.specs.Prelude.{ℕ, zero, suc, ◌+◌, ◌-◌, ◌^◌, ◌<◌, ◌≤◌, ◌≡◌, List, [], ◌∷◌, ◌++◌, map, Bool, true, false, cond, replicate}
 use Rattle.std.proofs.Math.Option.{Option, none, some}
-use Rattle.refusal.specs.Numbers.{sound, older_payload}
+use Rattle.refusal.specs.Numbers.{sound, number}
 use Rattle.counts.specs.Round.{step}
 use Rattle.replay.specs.Rule.{step_taken, older}
 use Rattle.replay.specs.Periods.{Payload, pay, Mark, held_at, range}
 use Rattle.replay.specs.Claims.{Receiver, by_step, record_of, answers_of, Replays, ByRule}
+use Rattle.refusal.specs.declared.Refusal.TheVariants.{OlderPayload}
 
 pub record Bare : Type 0 where
   pub heard : Bool
@@ -23,7 +24,7 @@ bare k far =
       Event = Payload ℕ;
       heard = λ s. s.heard;
       last = λ s. s.last;
-      number = λ s p. cond (older far (step_from k s p)) older_payload sound;
+      number = λ s p. cond (older far (step_from k s p)) (number OlderPayload) sound;
       appends = λ s p. cond (older far (step_from k s p)) [] (by_step (step_from k s p) 0 p.windows);
       after = λ s p. cond (older far (step_from k s p)) s (record { heard = true; last = p.number });
     }
@@ -84,16 +85,16 @@ OneMoreBehindFails =
 pub record Costs : Type 0 where
   -- After 63 or 127 payloads lost in a row what follows is taken as older until the numbers come round: the one a whole round ahead
   -- counts as a step of 0, and the next is then replayed as a step of 1.
-  pub long_loss : answered 7 63 (0 ∷ range 64 64 ++ 128 ∷ 129 ∷ []) ≡ sound ∷ replicate 64 older_payload ++ sound ∷ sound ∷ []
-  pub long_loss_of_digits : answered 8 127 (0 ∷ range 128 128 ++ 256 ∷ 257 ∷ []) ≡ sound ∷ replicate 128 older_payload ++ sound ∷ sound ∷ []
+  pub long_loss : answered 7 63 (0 ∷ range 64 64 ++ 128 ∷ 129 ∷ []) ≡ sound ∷ replicate 64 (number OlderPayload) ++ sound ∷ sound ∷ []
+  pub long_loss_of_digits : answered 8 127 (0 ∷ range 128 128 ++ 256 ∷ 257 ∷ []) ≡ sound ∷ replicate 128 (number OlderPayload) ++ sound ∷ sound ∷ []
   -- A line at rest repeats one number: 64 ahead, it is older each time.
-  pub at_rest : answered 7 63 (0 ∷ 64 ∷ 64 ∷ 64 ∷ []) ≡ sound ∷ older_payload ∷ older_payload ∷ older_payload ∷ []
+  pub at_rest : answered 7 63 (0 ∷ 64 ∷ 64 ∷ 64 ∷ []) ≡ sound ∷ number OlderPayload ∷ number OlderPayload ∷ number OlderPayload ∷ []
   -- A sender that begins anew at 0 is taken as older up to the last number, which counts as a step of 0; where that was above 64, at
   -- once as ahead.
-  pub begun_anew : answered 7 63 (40 ∷ range 0 40 ++ 40 ∷ 41 ∷ []) ≡ sound ∷ replicate 40 older_payload ++ sound ∷ sound ∷ []
+  pub begun_anew : answered 7 63 (40 ∷ range 0 40 ++ 40 ∷ 41 ∷ []) ≡ sound ∷ replicate 40 (number OlderPayload) ++ sound ∷ sound ∷ []
   pub begun_anew_ahead : answered 7 63 (65 ∷ 0 ∷ 1 ∷ []) ≡ sound ∷ sound ∷ sound ∷ []
   -- One payload 65 behind is taken as fresh, and then 62 as older; the next counts as a step of 0.
-  pub too_far_behind : answered 7 63 (100 ∷ 35 ∷ range 101 62 ++ 163 ∷ []) ≡ sound ∷ sound ∷ replicate 62 older_payload ++ sound ∷ []
+  pub too_far_behind : answered 7 63 (100 ∷ 35 ∷ range 101 62 ++ 163 ∷ []) ≡ sound ∷ sound ∷ replicate 62 (number OlderPayload) ++ sound ∷ []
   -- And a receiver that gets more may carry less: where 9 overtakes 5, the three periods that 5 carries are filled.
   pub gets_less : map (held_at 0 (marks_of 7 63 (0 ∷ 5 ∷ []))) (5 ∷ 6 ∷ 7 ∷ []) ≡ some 5 ∷ some 6 ∷ some 7 ∷ []
   pub gets_more : map (held_at 0 (marks_of 7 63 (0 ∷ 9 ∷ 5 ∷ []))) (5 ∷ 6 ∷ 7 ∷ []) ≡ none ∷ none ∷ none ∷ []

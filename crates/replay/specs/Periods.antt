@@ -3,7 +3,8 @@
 -- first. Its own period is S (i + 2); "two periods before" it is S i.
 use Rattle.std.specs.Prelude.{ℕ, zero, suc, ◌+◌, ◌-◌, ◌%◌, ◌^◌, ◌≤◌, ◌≡◌, List, [], ◌∷◌, map, Bool, true, false, cond, ltb, eqb, get_or}
 use Rattle.std.proofs.Math.Option.{Option, none, some}
-use Rattle.refusal.specs.Numbers.{sound, older_payload}
+use Rattle.refusal.specs.Numbers.{sound, number}
+use Rattle.refusal.specs.declared.Refusal.TheVariants.{OlderPayload}
 
 -- What a payload brings: its sequence, and its three windows, oldest first.
 pub record Payload (A : Type 0) : Type 0 where
@@ -69,7 +70,7 @@ fresh_of (a ∷ more) = a ∷ fresh_from a more
 -- What is answered to each arrival: 0 to the fresh ones, "19 older payload" to the others.
 abbrev pub due_from : ℕ → List ℕ → List ℕ
 due_from a [] = []
-due_from a (b ∷ bs) = cond (ltb b a) (older_payload ∷ due_from a bs) (sound ∷ due_from b bs)
+due_from a (b ∷ bs) = cond (ltb b a) (number OlderPayload ∷ due_from a bs) (sound ∷ due_from b bs)
 
 abbrev pub due_of : List ℕ → List ℕ
 due_of [] = []

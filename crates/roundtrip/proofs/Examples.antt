@@ -1,8 +1,7 @@
 -- The two lists of specs/Examples.antt are legal: each content is made, by computing, and they fit.
-use Prim.Native.Nat.{ℕ, zero, suc, ◌≤◌}
-use mathlib.Core.Path.{◌≡◌, refl}
+use Prim.Native.Nat.{ℕ, zero, suc}
+use mathlib.Core.Path.{refl}
 use mathlib.Core.List.{List, [], ◌∷◌, ◌++◌}
-use mathlib.Core.Bool.{true}
 use native.Mathlib.Omega.{arith}
 use lib.ListN.{replicate}
 use Rattle.octets.specs.Room.{written}
@@ -16,10 +15,8 @@ use Rattle.data.specs.Data.{data_made}
 use Rattle.fax.specs.Fax.{fax_made, body_sized}
 use Rattle.digits.specs.Layout.{digits_made}
 use Rattle.signalling.specs.Layout.{signalling_made, all_allowed, pairs}
-use Rattle.roundtrip.specs.Demand2.{Sub, Stated, AllStated, AllMade}
+use Rattle.roundtrip.specs.Demand2.{Sub, AllStated, AllMade}
 use Rattle.roundtrip.specs.Examples.{table, spoken, fragments, every_kind, fullest, EveryKindLegal, FullestLegal}
-use Rattle.octets.proofs.Order.{clash}
-use Rattle.payload.specs.Claims.{samples_in}
 use Rattle.roundtrip.proofs.Taken.{made-is-taken}
 
 abbrev content : ℕ → ℕ → List ℕ → joining.Member
@@ -37,51 +34,18 @@ every-content =
 
 every_made : AllMade table every_kind every-content
 unfolding found_at meaning packed syntax_at voice_made body_octets block_octets front_of sid_made data_made fax_made body_sized digits_made signalling_made all_allowed pairs
-every_made = ((refl, refl, refl), ((refl, refl, refl), ((refl, refl, refl), ((refl, refl, refl), ((refl, refl, refl), ((refl, refl, refl), tt))))))
+every_made = grind arith
 
 every-fits : Fits every-content
 unfolding joined shortest_header
-every-fits =
-    record {
-      some = omega arith;
-      most = omega arith;
-      each = (
-        record { free = omega arith; small = omega arith; four_bits = omega arith; short = λ more. omega arith },
-        (
-          record { free = omega arith; small = omega arith; four_bits = omega arith; short = λ more. omega arith },
-          (
-            record { free = omega arith; small = omega arith; four_bits = omega arith; short = λ more. omega arith },
-            (
-              record { free = omega arith; small = omega arith; four_bits = omega arith; short = λ more. omega arith },
-              (
-                record { free = omega arith; small = omega arith; four_bits = omega arith; short = λ more. omega arith },
-                (record { free = omega arith; small = omega arith; four_bits = omega arith; short = λ more. omega arith }, tt),
-              ),
-            ),
-          ),
-        ),
-      );
-      whole = omega arith;
-    }
-
-stated-here : (s : Sub) → s.cid ≤ 255 → samples_in s.content ≡ 30 → Stated s
-stated-here s octet thirty = record { octet = octet; thirty = thirty }
+every-fits = grind arith
 
 pub every-kind-legal : EveryKindLegal
 unfolding joined shortest_header
 every-kind-legal = (
   written (replicate 55 0) 0 (joined every-content),
   record {
-    stated = (
-      stated-here _ (omega arith) refl,
-      (
-        stated-here _ (omega arith) refl,
-        (
-          stated-here _ (omega arith) refl,
-          (stated-here _ (omega arith) refl, (stated-here _ (omega arith) refl, (stated-here _ (omega arith) refl, tt))),
-        ),
-      ),
-    );
+    stated = grind arith;
     taken = made-is-taken table (replicate 55 0) every_kind every-content every_made every-fits (omega arith);
     to_last = refl;
   },
@@ -107,11 +71,11 @@ full-made = many-made 63 (fragments ∷ []) (last-content ∷ []) ((refl, refl, 
 
 many-stated : (n : ℕ) (ss : List Sub) → AllStated ss → AllStated (replicate n spoken ++ ss)
 many-stated zero ss all = all
-many-stated (suc n) ss all = (stated-here spoken (omega arith) refl, many-stated n ss all)
+many-stated (suc n) ss all = grind (arith, many-stated n ss all)
 
 many-carriable : (n : ℕ) (cs : List joining.Member) → Each cs → Each (replicate n (content 5 0 (replicate 10 170)) ++ cs)
 many-carriable zero cs each = each
-many-carriable (suc n) cs each = (record { free = omega arith; small = omega arith; four_bits = omega arith; short = λ more. omega arith }, many-carriable n cs each)
+many-carriable (suc n) cs each = grind (arith, many-carriable n cs each)
 
 full-fits : Fits full-content
 unfolding joined shortest_header
@@ -119,7 +83,7 @@ full-fits =
     record {
       some = omega arith;
       most = omega arith;
-      each = many-carriable 63 (last-content ∷ []) (record { free = omega arith; small = omega arith; four_bits = omega arith; short = λ more. clash true refl more }, tt);
+      each = many-carriable 63 (last-content ∷ []) (grind arith);
       whole = omega arith;
     }
 
@@ -128,7 +92,7 @@ unfolding joined shortest_header
 fullest-legal = (
   written (replicate 1600 0) 0 (joined full-content),
   record {
-    stated = many-stated 63 (fragments ∷ []) (stated-here fragments (omega arith) refl, tt);
+    stated = many-stated 63 (fragments ∷ []) (grind arith);
     taken = made-is-taken table (replicate 1600 0) fullest full-content full-made full-fits (omega arith);
     to_last = refl;
   },

@@ -2,7 +2,7 @@
 use Prim.Native.Nat.{ℕ, ◌+◌, ◌≤◌}
 use mathlib.Core.Path.{◌≡◌, refl, sym, ap, ap₂, ◌∙◌, subst}
 use mathlib.Core.List.{List, [], ◌∷◌, ◌++◌, map}
-use mathlib.Core.Bool.{Bool, false}
+use mathlib.Core.Bool.{false}
 use native.Mathlib.Nat.{zero-add}
 use native.Mathlib.Omega.{arith}
 use lib.ListN.{length, take, drop}
@@ -20,7 +20,7 @@ use Rattle.payload.specs.Content.{payload_read}
 use Rattle.payload.proofs.ContentBack.{content-reads-back}
 use Rattle.place.specs.declared.Writer.{Writer}
 use Rattle.place.specs.Place.{fresh_writer}
-use Rattle.roundtrip.specs.Demand2.{Sub, AllStated, is_last, fed, Legal, frame_of, Got, gotten, same_as, WrittenReadsBack, AllMade, end, LegalIsMade}
+use Rattle.roundtrip.specs.Demand2.{Sub, AllStated, is_last, fed, Legal, frame_of, Got, gotten, same_as, WrittenReadsBack, AllMade, LegalIsMade}
 use Rattle.roundtrip.proofs.Feeding.{Run, feeding, same-took}
 
 map-map : {A B C : Type 0} (f : B → C) (g : A → B) (l : List A) → map f (map g l) ≡ map (λ a. f (g a)) l
@@ -38,11 +38,7 @@ got-back table (s ∷ ss) [] stated all = absurd all
 got-back table (s ∷ ss) (c ∷ cs) stated all =
     let cid : c.cid ≡ s.cid = all.0.0 in
     let reading = content-reads-back (found_at table s.cid) s.content c.ptype c.payload stated.0.thirty all.0.1 all.0.2 in
-    let one : got table c ≡ same_as s =
-    ap (λ (n : ℕ). record { cid = n; reading = payload_read (found_at table n) c.ptype c.payload }) cid
-    ∙ ap (λ r. record { cid = s.cid; reading = r }) reading
-    in
-    ap₂ ◌∷◌ one (got-back table ss cs stated.1 all.1)
+    ap₂ ◌∷◌ (rw (cid, reading)) (got-back table ss cs stated.1 all.1)
 
 -- a legal list is not empty
 pub some : (table frame : List ℕ) (ss : List Sub) (w : Writer) (left : List ℕ) → Legal table frame ss w left → fresh_writer.done ≡ is_last ss
@@ -85,12 +81,7 @@ legal-is-made table frame ss w left legal =
     let at : w.at ≡ length (joined cs) = run.at ∙ zero-add (length (joined cs)) in
     let count : w.count ≡ length cs = run.count ∙ zero-add (length cs) in
     let here : w.at ≤ length frame = run.stands.inside in
-    let is : w ≡ end cs =
-    ap (λ (n : ℕ). record { at = n; count = w.count; done = w.done }) at
-    ∙ ap (λ (n : ℕ). record { at = length (joined cs); count = n; done = w.done }) count
-    ∙ ap (λ (d : Bool). record { at = length (joined cs); count = length cs; done = d }) run.done
-    in
-    (cs, run.each-made, run_fits table frame ss w left legal, rw at at here, is, run.holds)
+    (cs, run.each-made, run_fits table frame ss w left legal, rw at at here, rw (← at, ← count, ← run.done), run.holds)
 
 -- the frame that was written
 pub frame_is : (room f : List ℕ) → take (length f) (written room 0 f) ≡ f

@@ -6,8 +6,9 @@
 -- call, are `fed`; `frame::open` answers `answer (opening ..)`, `record::table::record_of` `found_at`,
 -- `payload::layout::layout_of` `layout_of`, each `read_` function its part of `read_as`, and what meets their contracts over a frame
 -- is `gotten`. Proved in proofs/.
-use Rattle.std.specs.Prelude.{ℕ, ◌<◌, ◌≤◌, ◌≡◌, List, [], ◌∷◌, ◌++◌, map, Bool, true, false, length, take, drop}
-use Rattle.refusal.specs.Numbers.{room_too_small}
+use Rattle.std.specs.Prelude.{ℕ, ◌<◌, ◌≤◌, ◌≡◌, List, [], ◌∷◌, ◌++◌, map, Bool, true, false, length, take, drop, Ok}
+use Rattle.refusal.specs.declared.Refusal.{Refusal}
+use Rattle.refusal.specs.declared.Refusal.TheVariants.{RoomTooSmall}
 use Rattle.octets.specs.Octets.{Octets}
 use Rattle.octets.specs.Made.{made}
 use Rattle.octets.specs.Room.{written}
@@ -17,7 +18,6 @@ use Rattle.frame.specs.Opening.{opening}
 use Rattle.joining.specs.Joining.{joined}
 use Rattle.joining.specs.Joining as joining
 use Rattle.framing.specs.Claims.{Fits, Sound, list}
-use Rattle.payload.specs.declared.layout.TypeFor.TheVariants.{Typed}
 use Rattle.payload.specs.Layout.{type_for}
 use Rattle.payload.specs.Content.{Content, Reading, reads, payload_read, payload_made, kind_of}
 use Rattle.payload.specs.Claims.{normal_content, samples_in}
@@ -44,19 +44,19 @@ abbrev pub is_last : List Sub → Bool
 is_last [] = true
 is_last (s ∷ ss) = false
 
--- The writer fed a list: it took all, with the writer and the lent frame then; or it stopped, with the number, the sub-frames
+-- The writer fed a list: it took all, with the writer and the lent frame then; or it stopped, with the refusal, the sub-frames
 -- that it did not take, and the writer and the lent frame then.
 pub data Fed : Type 0 where
   took : Writer → List ℕ → Fed
-  stopped : ℕ → List Sub → Writer → List ℕ → Fed
+  stopped : Refusal → List Sub → Writer → List ℕ → Fed
 
 abbrev pub after : Writing → Writer → Writer
 after (writes octets next) w = next
-after (refuses number) w = w
+after (refuses refusal) w = w
 
 abbrev pub onwards : Writing → List Sub → Writer → List ℕ → Fed → Fed
 onwards (writes octets next) here w frame rest = rest
-onwards (refuses number) here w frame rest = stopped number here w frame
+onwards (refuses refusal) here w frame rest = stopped refusal here w frame
 
 -- what the writer does with the first of a list
 abbrev pub first : List ℕ → List ℕ → Writer → Sub → List Sub → Writing
@@ -120,7 +120,7 @@ WrittenReadsBack =
 abbrev pub MadeAs : List ℕ → Sub → joining.Member → Type 0
 MadeAs table s c =
     (c.cid ≡ s.cid)
-    × (type_for (found_at table s.cid) (kind_of s.content) ≡ Typed c.ptype)
+    × (type_for (found_at table s.cid) (kind_of s.content) ≡ Ok c.ptype)
     × (payload_made (found_at table s.cid) s.content ≡ made c.payload)
 
 abbrev pub AllMade : List ℕ → List Sub → List joining.Member → Type 0
@@ -161,7 +161,7 @@ pub record CutShort (table frame small : List ℕ) (ss : List Sub) (left : List 
   pub held : List ℕ
   pub next : Writer
   pub octets : List ℕ
-  pub stops : fed table small fresh_writer ss ≡ stopped room_too_small (s ∷ rest) w held
+  pub stops : fed table small fresh_writer ss ≡ stopped RoomTooSmall (s ∷ rest) w held
   pub split : ss ≡ before ++ s ∷ rest
   pub counted : w.count ≡ length before
   pub fits_before : w.at ≤ length small

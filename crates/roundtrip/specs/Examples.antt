@@ -1,10 +1,9 @@
 -- Legal lists: one with each of the six kinds of content, and one of 64 sub-frames and 1,600 octets. Proved legal in
 -- proofs/Examples.antt, so the hypotheses of demand 2 can be met.
-use Rattle.std.specs.Prelude.{ℕ, List, [], ◌∷◌, ◌++◌, true, false, replicate, pos}
+use Rattle.std.specs.Prelude.{ℕ, List, [], ◌∷◌, ◌++◌, true, false, replicate, pos, Some}
 use Rattle.record.specs.declared.syntax.Syntax.TheVariants.{Acelp, Data}
 use Rattle.record.specs.Record.{packed}
 use Rattle.sid.specs.declared.Sid.TheVariants.{Plain}
-use Rattle.fax.specs.declared.Stamp.TheVariants.{Stamped}
 use Rattle.fax.specs.declared.Command.TheVariants.{Off}
 use Rattle.payload.specs.Content.{speech, dialled, seized, faxed, silent, fragment}
 use Rattle.roundtrip.specs.Demand2.{Sub, Legal}
@@ -37,7 +36,7 @@ every_kind =
           });
     }
     ∷ record { cid = 5; content = seized (record { alarm = true; sequence = record { 0 = 1 }; samples = replicate 30 15 }) }
-    ∷ record { cid = 5; content = faxed 0 (Stamped 1000) Off [] }
+    ∷ record { cid = 5; content = faxed 0 (Some 1000) Off [] }
     ∷ record { cid = 5; content = silent Plain }
     ∷ record { cid = 6; content = fragment true true (record { 0 = 300 }) (1 ∷ []) }
     ∷ []

@@ -2,16 +2,17 @@
 -- (`Post`, which the kit makes of it) are the definition's; results that meet the six writers' contracts, call after call, are
 -- `fed`, and those that meet the readers' are `gotten`. Where a contract cited another definition, this would have no proof.
 -- Proved in proofs/Tied.antt.
-use Rattle.std.specs.Prelude.{ℕ, ◌≡◌, List, [], ◌∷◌, map, Bool, true, length, take, drop}
+use Rattle.std.specs.Prelude.{ℕ, ◌≡◌, List, [], ◌∷◌, map, Bool, true, length, take, drop, Option, Result, Ok, Err}
 use contract.Lifetimes.{Lfts}
 use borrow.Fn.Kinds.{Dens}
 use Rattle.contracts.specs.Meeting.{Answers, Leaves, Met}
+use Rattle.refusal.specs.declared.Refusal.{Refusal}
 use Rattle.record.specs.declared.syntax.Record.{Record}
 use Rattle.record.specs.declared.syntax.Syntax.{Syntax}
-use Rattle.record.specs.declared.table.Found.{Found}
 use Rattle.record.specs.Record.{found_at}
 use Rattle.header.specs.declared.SubFrame.{SubFrame}
 use Rattle.frame.specs.declared.Opened.{Opened}
+use Rattle.frame.specs.declared.Refused.{Refused}
 use Rattle.frame.specs.Opening.{opening, answer}
 use Rattle.voice.specs.Voice.{voice_read}
 use Rattle.sid.specs.Sid.{sid_read}
@@ -20,17 +21,13 @@ use Rattle.fax.specs.Fax.{fax_read}
 use Rattle.digits.specs.Layout.{digits_read}
 use Rattle.signalling.specs.Layout.{signalling_read}
 use Rattle.payload.specs.declared.layout.Layout.{Layout}
-use Rattle.payload.specs.declared.layout.Layout.TheVariants.{OfVoice, OfDigits, OfSignalling, OfFax, OfSid, OfData, NoLayout}
+use Rattle.payload.specs.declared.layout.Layout.TheVariants.{OfVoice, OfDigits, OfSignalling, OfFax, OfSid, OfData}
 use Rattle.payload.specs.Layout.{layout_of}
 use Rattle.payload.specs.Content.{Content, speech, dialled, seized, faxed, silent, fragment, Reading, refused, of_voice, of_digits, of_signalling, of_fax, of_sid, of_data}
 use Rattle.place.specs.declared.Writer.{Writer}
-use Rattle.writer.specs.declared.primary.Primary.{Primary}
-use Rattle.writer.specs.declared.primary.Primary.TheVariants.{PrimaryTaken, PrimaryRefused}
-use Rattle.writer.specs.declared.signalled.Signalled.{Signalled}
-use Rattle.writer.specs.declared.signalled.Signalled.TheVariants.{SignalledTaken, SignalledRefused}
 use Rattle.place.specs.Place.{fresh_writer}
-use Rattle.writer.specs.Writer.{Writing, writes, refuses, writing, left_writing}
-use Rattle.writer.specs.Answers.{primary, signalled}
+use Rattle.writer.specs.Writer.{Writing, writing, left_writing}
+use Rattle.writer.specs.Answers.{answered}
 use Rattle.roundtrip.specs.Demand2.{Sub, AllStated, is_last, Fed, took, stopped, fed, frame_of, Got, gotten, same_as, RoundTrip}
 use Rattle.place.proofs.fresh.Kinds as fresh-kinds
 use Rattle.place.proofs.fresh.Reads as fresh-reads
@@ -111,17 +108,17 @@ to_sid κs a = handed a.0.now a.1.0 a.1.1.0 a.1.1.1.0.now a.1.1.1.1.0 (silent a.
 
 pub record Tied : Type 0 where
   pub fresh : Answers 0 fresh-kinds.ps fresh-kinds.r (λ κs a. fresh_writer) fresh-reads.Post
-  pub voice : Answers 3 voice-kinds.ps voice-kinds.r (λ κs a. primary (does (to_voice κs a))) voice-reads.Post
+  pub voice : Answers 3 voice-kinds.ps voice-kinds.r (λ κs a. answered (does (to_voice κs a))) voice-reads.Post
   pub voice_left : Leaves 3 voice-kinds.ps voice-kinds.r (λ κs s. s.0.now) (λ κs a. left_of (to_voice κs a)) voice-reads.Post
-  pub fragments : Answers 3 data-kinds.ps data-kinds.r (λ κs a. primary (does (to_data κs a))) data-reads.Post
+  pub fragments : Answers 3 data-kinds.ps data-kinds.r (λ κs a. answered (does (to_data κs a))) data-reads.Post
   pub fragments_left : Leaves 3 data-kinds.ps data-kinds.r (λ κs s. s.0.now) (λ κs a. left_of (to_data κs a)) data-reads.Post
-  pub digits : Answers 2 digits-kinds.ps digits-kinds.r (λ κs a. signalled (does (to_digits κs a))) digits-reads.Post
+  pub digits : Answers 2 digits-kinds.ps digits-kinds.r (λ κs a. answered (does (to_digits κs a))) digits-reads.Post
   pub digits_left : Leaves 2 digits-kinds.ps digits-kinds.r (λ κs s. s.0.now) (λ κs a. left_of (to_digits κs a)) digits-reads.Post
-  pub signalling : Answers 2 signalling-kinds.ps signalling-kinds.r (λ κs a. signalled (does (to_signalling κs a))) signalling-reads.Post
+  pub signalling : Answers 2 signalling-kinds.ps signalling-kinds.r (λ κs a. answered (does (to_signalling κs a))) signalling-reads.Post
   pub signalling_left : Leaves 2 signalling-kinds.ps signalling-kinds.r (λ κs s. s.0.now) (λ κs a. left_of (to_signalling κs a)) signalling-reads.Post
-  pub fax : Answers 3 fax-kinds.ps fax-kinds.r (λ κs a. signalled (does (to_fax κs a))) fax-reads.Post
+  pub fax : Answers 3 fax-kinds.ps fax-kinds.r (λ κs a. answered (does (to_fax κs a))) fax-reads.Post
   pub fax_left : Leaves 3 fax-kinds.ps fax-kinds.r (λ κs s. s.0.now) (λ κs a. left_of (to_fax κs a)) fax-reads.Post
-  pub sid : Answers 2 sid-kinds.ps sid-kinds.r (λ κs a. signalled (does (to_sid κs a))) sid-reads.Post
+  pub sid : Answers 2 sid-kinds.ps sid-kinds.r (λ κs a. answered (does (to_sid κs a))) sid-reads.Post
   pub sid_left : Leaves 2 sid-kinds.ps sid-kinds.r (λ κs s. s.0.now) (λ κs a. left_of (to_sid κs a)) sid-reads.Post
   -- reading: the frame opened, the record, the layout, and each layout's own
   pub opens : Answers 1 open-kinds.ps open-kinds.r (λ κs a. answer (opening a.0.now)) open-reads.Post
@@ -134,69 +131,52 @@ pub record Tied : Type 0 where
   pub read_sid : Answers 1 read-sid-kinds.ps read-sid-kinds.r (λ κs a. sid_read a.0 a.1.0.now) read-sid-reads.Post
   pub read_data : Answers 1 read-data-kinds.ps read-data-kinds.r (λ κs a. data_read a.0.now) read-data-reads.Post
 
--- What a writing function answers, in one form for the six: the writer after it, or the refusal number.
-pub data Answer : Type 0 where
-  takes : Writer → Answer
-  says : ℕ → Answer
-
-abbrev pub answer_of : Writing → Answer
-answer_of (writes octets next) = takes next
-answer_of (refuses number) = says number
-
-abbrev pub of_primary : Primary → Answer
-of_primary (PrimaryTaken next) = takes next
-of_primary (PrimaryRefused number) = says number
-
-abbrev pub of_signalled : Signalled → Answer
-of_signalled (SignalledTaken next) = takes next
-of_signalled (SignalledRefused number) = says number
-
 -- what comes of a call: its answer, and what the lent frame then holds
 pub record Back : Type 0 where
-  pub answer : Answer
+  pub answer : Result Writer Refusal
   pub left : List ℕ
 
 -- A call of one of the six, handed this, of which that comes, and which meets its contract.
 pub data Call (h : Handed) (back : Back) : Type 0 where
-  by_voice : Met 3 voice-kinds.ps voice-kinds.r voice-reads.Post to_voice (λ κs x s. record { answer = of_primary x; left = s.0.now }) h back → Call h back
-  by_data : Met 3 data-kinds.ps data-kinds.r data-reads.Post to_data (λ κs x s. record { answer = of_primary x; left = s.0.now }) h back → Call h back
-  by_digits : Met 2 digits-kinds.ps digits-kinds.r digits-reads.Post to_digits (λ κs x s. record { answer = of_signalled x; left = s.0.now }) h back → Call h back
-  by_signalling : Met 2 signalling-kinds.ps signalling-kinds.r signalling-reads.Post to_signalling (λ κs x s. record { answer = of_signalled x; left = s.0.now }) h back → Call h back
-  by_fax : Met 3 fax-kinds.ps fax-kinds.r fax-reads.Post to_fax (λ κs x s. record { answer = of_signalled x; left = s.0.now }) h back → Call h back
-  by_sid : Met 2 sid-kinds.ps sid-kinds.r sid-reads.Post to_sid (λ κs x s. record { answer = of_signalled x; left = s.0.now }) h back → Call h back
+  by_voice : Met 3 voice-kinds.ps voice-kinds.r voice-reads.Post to_voice (λ κs x s. record { answer = x; left = s.0.now }) h back → Call h back
+  by_data : Met 3 data-kinds.ps data-kinds.r data-reads.Post to_data (λ κs x s. record { answer = x; left = s.0.now }) h back → Call h back
+  by_digits : Met 2 digits-kinds.ps digits-kinds.r digits-reads.Post to_digits (λ κs x s. record { answer = x; left = s.0.now }) h back → Call h back
+  by_signalling : Met 2 signalling-kinds.ps signalling-kinds.r signalling-reads.Post to_signalling (λ κs x s. record { answer = x; left = s.0.now }) h back → Call h back
+  by_fax : Met 3 fax-kinds.ps fax-kinds.r fax-reads.Post to_fax (λ κs x s. record { answer = x; left = s.0.now }) h back → Call h back
+  by_sid : Met 2 sid-kinds.ps sid-kinds.r sid-reads.Post to_sid (λ κs x s. record { answer = x; left = s.0.now }) h back → Call h back
 
 -- Calls that meet their contracts, one for each sub-frame of a list, each handed the writer and the lent frame that the one before
 -- left, until one refuses or the last is taken.
 pub data Calls (table : List ℕ) : List ℕ → Writer → List Sub → Fed → Type 0 where
   all_taken : (frame : List ℕ) (w : Writer) → Calls table frame w [] (took w frame)
   goes_on : (frame left : List ℕ) (w next : Writer) (s : Sub) (ss : List Sub) (end : Fed)
-      → Call (record { frame = frame; writer = w; last = is_last ss; table = table; sub = s }) (record { answer = takes next; left = left })
+      → Call (record { frame = frame; writer = w; last = is_last ss; table = table; sub = s }) (record { answer = Ok next; left = left })
       → Calls table left next ss end
       → Calls table frame w (s ∷ ss) end
-  stops : (frame left : List ℕ) (w : Writer) (s : Sub) (ss : List Sub) (number : ℕ)
-      → Call (record { frame = frame; writer = w; last = is_last ss; table = table; sub = s }) (record { answer = says number; left = left })
-      → Calls table frame w (s ∷ ss) (stopped number (s ∷ ss) w left)
+  stops : (frame left : List ℕ) (w : Writer) (s : Sub) (ss : List Sub) (refusal : Refusal)
+      → Call (record { frame = frame; writer = w; last = is_last ss; table = table; sub = s }) (record { answer = Err refusal; left = left })
+      → Calls table frame w (s ∷ ss) (stopped refusal (s ∷ ss) w left)
 
 -- They are `fed`.
 abbrev pub CallsAreFed : Type 0
 CallsAreFed = (table frame : List ℕ) (w : Writer) (ss : List Sub) (end : Fed) → Calls table frame w ss end → end ≡ fed table frame w ss
 
 -- A payload read by the function of its layout, in a call that meets its contract.
-abbrev pub ReadBy : Layout → List ℕ → Reading → Type 0
-ReadBy (OfVoice r) p got = Met 1 read-voice-kinds.ps read-voice-kinds.r read-voice-reads.Post {I = Record × List ℕ} (λ κs a. (a.0, a.1.0.now)) (λ κs x s. of_voice p x) (r, p) got
-ReadBy OfDigits p got = Met 1 read-digits-kinds.ps read-digits-kinds.r read-digits-reads.Post (λ κs a. a.0.now) (λ κs x s. of_digits x) p got
-ReadBy OfSignalling p got = Met 1 read-signalling-kinds.ps read-signalling-kinds.r read-signalling-reads.Post (λ κs a. a.0.now) (λ κs x s. of_signalling x) p got
-ReadBy OfFax p got = Met 1 read-fax-kinds.ps read-fax-kinds.r read-fax-reads.Post (λ κs a. a.0.now) (λ κs x s. of_fax p x) p got
-ReadBy (OfSid syntax) p got = Met 1 read-sid-kinds.ps read-sid-kinds.r read-sid-reads.Post {I = Syntax × List ℕ} (λ κs a. (a.0, a.1.0.now)) (λ κs x s. of_sid x) (syntax, p) got
-ReadBy OfData p got = Met 1 read-data-kinds.ps read-data-kinds.r read-data-reads.Post (λ κs a. a.0.now) (λ κs x s. of_data p x) p got
-ReadBy (NoLayout number) p got = got ≡ refused number
+abbrev pub ReadBy : Result Layout Refusal → List ℕ → Reading → Type 0
+ReadBy (Ok (OfVoice r)) p got = Met 1 read-voice-kinds.ps read-voice-kinds.r read-voice-reads.Post {I = Record × List ℕ} (λ κs a. (a.0, a.1.0.now)) (λ κs x s. of_voice p x) (r, p) got
+ReadBy (Ok OfDigits) p got = Met 1 read-digits-kinds.ps read-digits-kinds.r read-digits-reads.Post (λ κs a. a.0.now) (λ κs x s. of_digits x) p got
+ReadBy (Ok OfSignalling) p got = Met 1 read-signalling-kinds.ps read-signalling-kinds.r read-signalling-reads.Post (λ κs a. a.0.now) (λ κs x s. of_signalling x) p got
+ReadBy (Ok OfFax) p got = Met 1 read-fax-kinds.ps read-fax-kinds.r read-fax-reads.Post (λ κs a. a.0.now) (λ κs x s. of_fax p x) p got
+ReadBy (Ok (OfSid syntax)) p got = Met 1 read-sid-kinds.ps read-sid-kinds.r read-sid-reads.Post {I = Syntax × List ℕ} (λ κs a. (a.0, a.1.0.now)) (λ κs x s. of_sid x) (syntax, p) got
+ReadBy (Ok OfData) p got = Met 1 read-data-kinds.ps read-data-kinds.r read-data-reads.Post (λ κs a. a.0.now) (λ κs x s. of_data p x) p got
+ReadBy (Err refusal) p got = got ≡ refused refusal
 
 -- a sub-frame of a frame f, read so by the record of its sub-channel
 pub record Gets (table f : List ℕ) (sub : SubFrame) (got : Got) : Type 0 where
-  pub found : Found
-  pub layout : Layout
+  pub found : Option Record
+  pub layout : Result Layout Refusal
   pub finds : Met 1 record-of-kinds.ps record-of-kinds.r record-of-reads.Post {I = List ℕ × ℕ} (λ κs a. (a.0.now, a.1.0)) (λ κs x s. x) (table, sub.cid) found
-  pub lays : Met 0 layout-of-kinds.ps layout-of-kinds.r layout-of-reads.Post {I = Found × ℕ} (λ κs a. (a.0, a.1.0)) (λ κs x s. x) (found, sub.ptype) layout
+  pub lays : Met 0 layout-of-kinds.ps layout-of-kinds.r layout-of-reads.Post {I = Option Record × ℕ} (λ κs a. (a.0, a.1.0)) (λ κs x s. x) (found, sub.ptype) layout
   pub read : ReadBy layout (take sub.len (drop sub.start f)) got.reading
   pub same_cid : got.cid ≡ sub.cid
 
@@ -206,11 +186,16 @@ AllGet table f [] (got ∷ gots) = ⊥
 AllGet table f (sub ∷ subs) [] = ⊥
 AllGet table f (sub ∷ subs) (got ∷ gots) = Gets table f sub got × AllGet table f subs gots
 
+-- the sub-frames of an opened frame: "1 to 8 refuse the whole frame: number, offset .., no sub-frame"
+abbrev pub subs_of : Result Opened Refused → List SubFrame
+subs_of (Ok opened) = take opened.count opened.subs
+subs_of (Err whole) = []
+
 -- a frame opened, and its sub-frames read so
 pub record ReadByCalls (table f : List ℕ) (gots : List Got) : Type 0 where
-  pub opened : Opened
+  pub opened : Result Opened Refused
   pub opens : Met 1 open-kinds.ps open-kinds.r open-reads.Post (λ κs a. a.0.now) (λ κs x s. x) f opened
-  pub each : AllGet table f (take opened.count opened.subs) gots
+  pub each : AllGet table f (subs_of opened) gots
 
 -- What comes is `gotten`.
 abbrev pub CallsAreGotten : Type 0

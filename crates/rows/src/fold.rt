@@ -2,7 +2,7 @@
 ghost use Rattle.std.specs.Prelude.{◌≤◌};
 
 use digits::layout::Window;
-use levels::Coded;
+use levels::Beyond;
 
 pub const FIRST: u64 = 1;
 
@@ -19,7 +19,7 @@ pub fn octet(acc: u64, x: u8) -> u64 {
 pub fn flag(set: bool) -> u64
     ensures { result ≤ 1 }
 {
-    if set { 1 } else { 0 }
+    u64::from(set)
 }
 
 // The low octet of the number.
@@ -30,9 +30,9 @@ pub fn low(acc: u64) -> u8 {
 // The magnitude of a level, and 200 of one above zero.
 pub fn level(acc: u64, level: i8) -> u64 {
     match levels::code_of(level, 128) {
-        Coded::Code(magnitude) => octet(acc, magnitude),
-        Coded::Above => octet(acc, 200),
-        Coded::Below => octet(acc, 201),
+        Ok(magnitude) => octet(acc, magnitude),
+        Err(Beyond::Above) => octet(acc, 200),
+        Err(Beyond::Below) => octet(acc, 201),
     }
 }
 

@@ -17,102 +17,95 @@ pub fn size(octets: &[u8], at: usize) -> usize
 
 // The octets of a part, and none where it is not there.
 pub fn part(octets: &[u8], start: usize, len: usize) -> &[u8] {
-    if octets.len() < start {
+    if octets.len() < start || octets.len() - start < len {
         return &octets[..0];
     }
-    if octets.len() - start < len {
-        return &octets[..0];
-    }
-    let end = start + len;
-    &octets[start..end]
+    &octets[start..start + len]
 }
 
-// How far the walk over the items is: where the octets of the item at hand begin and end, where the first item is, and how many
-// works are left.
+// Where the first item is, and how many works are to be done on the items in turn.
 #[derive(Clone, Copy)]
-pub struct Place {
-    pub start: usize,
-    pub end: usize,
+pub struct Works {
     pub first: usize,
-    pub left: u64,
+    pub count: u64,
 }
 
-// Before the first item.
-pub fn begin(first: usize, works: u64) -> Place {
-    Place {
-        start: first,
-        end: first,
-        first,
-        left: works,
-    }
+// Where the octets of the item at hand begin and end.
+#[derive(Clone, Copy)]
+struct Place {
+    start: usize,
+    end: usize,
 }
 
 // The next item; past the last, the first again.
-pub fn next(items: &[u8], walk: Place) -> Place
-    requires { 0 < walk.left }
-    ensures { result.left < walk.left }
-{
-    let first = walk.first;
-    let place = if walk.end < items.len() {
-        walk.end
+fn next(items: &[u8], first: usize, place: Place) -> Place {
+    let at = if place.end < items.len() {
+        place.end
     } else {
         first
     };
-    let left = walk.left - 1;
-    let len = size(items, place);
-    if items.len() <= place || items.len() - place < len + 2 {
+    let len = size(items, at);
+    if items.len() <= at || items.len() - at < len + 2 {
         return Place {
             start: items.len(),
             end: items.len(),
-            first,
-            left,
         };
     }
     Place {
-        start: place + 2,
-        end: place + 2 + len,
-        first,
-        left,
+        start: at + 2,
+        end: at + 2 + len,
     }
 }
 
-// Sets an octet, where it is there.
-fn set(items: &mut [u8], at: usize, octet: u8) {
-    if at < items.len() {
-        items[at] = octet;
+// Changes an octet of an item, where it is there: the one at a place, or the last.
+fn change(items: &mut [u8], place: Place, at: Option<usize>, acc: u64) {
+    let at = match at {
+        Some(at) => place.start.saturating_add(at),
+        None => place.end.saturating_sub(1),
+    };
+    if place.start <= at && at < place.end && at < items.len() {
+        items[at] = crate::fold::low(acc);
     }
 }
 
-// Changes an octet of an item.
-pub fn set_in(items: &mut [u8], walk: Place, at: usize, acc: u64) {
-    if walk.start < walk.end {
-        if at < walk.end - walk.start {
-            set(items, walk.start + at, crate::fold::low(acc));
-        }
-    }
+fn octets_of(items: &[u8], place: Place) -> &[u8] {
+    part(items, place.start, place.end.saturating_sub(place.start))
 }
 
-// Changes the last octet of an item, so that no work is like the one before.
-pub fn touch(items: &mut [u8], walk: Place, acc: u64) {
-    if walk.start < walk.end {
-        set(items, walk.end - 1, crate::fold::low(acc));
-    }
-}
-
-pub fn octets_of(items: &[u8], walk: Place) -> &[u8] {
-    if walk.end < walk.start {
-        return &items[..0];
-    }
-    part(items, walk.start, walk.end - walk.start)
-}
-
-// The walk over the items alone.
-pub fn walk(items: &[u8], begin: Place) -> u64 {
+// What the works make of the items, folded.
+pub fn each<W: FnMut(u64, &[u8]) -> u64>(items: &[u8], works: Works, mut work: W) -> u64
+    requires { (w : _) (acc : _) (item : _) → W.pre w acc item }
+{
     let mut acc = crate::fold::FIRST;
-    let mut walk = begin;
-    while 0 < walk.left {
-        walk = next(items, walk);
-        acc = crate::fold::octet(acc, octets::octet(octets_of(items, walk), 0));
+    let mut place = Place {
+        start: works.first,
+        end: works.first,
+    };
+    for _ in 0..works.count {
+        place = next(items, works.first, place);
+        acc = work(acc, octets_of(items, place));
+    }
+    acc
+}
+
+// The same, where an octet of each item is changed first, so that no work is like the one before.
+pub fn each_changed<W: FnMut(u64, &[u8]) -> u64>(
+    items: &mut [u8],
+    works: Works,
+    at: Option<usize>,
+    mut work: W,
+) -> u64
+    requires { (w : _) (acc : _) (item : _) → W.pre w acc item }
+{
+    let mut acc = crate::fold::FIRST;
+    let mut place = Place {
+        start: works.first,
+        end: works.first,
+    };
+    for _ in 0..works.count {
+        place = next(items, works.first, place);
+        change(items, place, at, acc);
+        acc = work(acc, octets_of(items, place));
     }
     acc
 }

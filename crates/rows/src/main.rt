@@ -9,7 +9,7 @@ mod steps;
 mod texts;
 mod writes;
 
-use crate::items::Place;
+use crate::items::Works;
 
 // What stands before the provisioning text: the row, how many times, and how long the text is.
 const FRONT: usize = 7;
@@ -25,23 +25,26 @@ fn main(rt: HostRuntime) {
 fn work(input: &mut [u8]) -> u64 {
     let size = items::size(input, 5);
     let mut table = [0u16; 256];
-    provisioning::text::read_text(items::part(input, FRONT, size), &mut table);
+    let _ = provisioning::text::read_text(items::part(input, FRONT, size), &mut table);
     let row = octets::octet(input, 0);
-    let begin = items::begin(FRONT + size, works(input));
-    work_of(row, input, begin, &mut table)
+    let works = Works {
+        first: FRONT + size,
+        count: count(input),
+    };
+    work_of(row, input, works, &mut table)
 }
 
 // How many times: four octets, the low one first.
-fn works(input: &[u8]) -> u64 {
-    items::pair(input, 3) as u64 * 65536 + items::pair(input, 1) as u64
+fn count(input: &[u8]) -> u64 {
+    u64::from(items::pair(input, 3)) * 65536 + u64::from(items::pair(input, 1))
 }
 
 // The work of a row, by its letter.
-fn work_of(row: u8, items: &mut [u8], begin: Place, table: &mut [u16; 256]) -> u64 {
+fn work_of(row: u8, items: &mut [u8], works: Works, table: &mut [u16; 256]) -> u64 {
     match row {
-        b'c' | b'r' | b'h' => reads::work_of(row, items, begin, table),
-        b'w' | b'W' => writes::write_each(items, begin, table, &mut [0u8; 1600], row == b'W'),
-        b'p' | b'P' => texts::read_each(items, begin, table, row == b'P'),
-        _ => steps::work_of(row, items, begin),
+        b'c' | b'r' | b'h' => reads::work_of(row, items, works, table),
+        b'w' | b'W' => writes::write_each(items, works, table, &mut [0u8; 1600], row == b'W'),
+        b'p' | b'P' => texts::read_each(items, works, table, row == b'P'),
+        _ => steps::work_of(row, items, works),
     }
 }

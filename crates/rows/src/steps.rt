@@ -1,29 +1,24 @@
 // The senders and receivers, a step at a time.
 use crate::fold::{flag, fold, octet, window, windows};
-use crate::items::Place;
-use dialling::Sending;
+use crate::items::Works;
 use digits::layout::Digits;
 use faxing::Did;
-use seizing::Sent;
+use refusal::Refusal;
 use signalling::layout::Signalling;
 
 const NOTHING: u64 = 300;
 
 pub fn digits(acc: u64, digits: Digits) -> u64 {
-    let current = digits.current;
-    let recent = digits.recent;
-    let previous = digits.previous;
     let front = crate::fold::level(octet(acc, digits.sequence.0), digits.level);
-    windows(front, current, recent, previous)
+    windows(front, digits.current, digits.recent, digits.previous)
 }
 
 pub fn signalling(acc: u64, signalling: Signalling) -> u64 {
     let front = fold(
         fold(acc, flag(signalling.alarm)),
-        signalling.sequence.0 as u64,
+        u64::from(signalling.sequence.0),
     );
-    let samples = signalling.samples;
-    crate::fold::samples(front, samples)
+    crate::fold::samples(front, signalling.samples)
 }
 
 // A level of 0 to -63 dBm0, and one above zero.
@@ -44,112 +39,117 @@ fn digit_entry(item: &[u8]) -> dialling::Entry {
     }
 }
 
-fn sending(acc: u64, answer: Sending) -> u64 {
+fn sending(acc: u64, answer: Result<Option<Digits>, Refusal>) -> u64 {
     match answer {
-        Sending::BadEntry(number) => octet(acc, number),
-        Sending::Unsent => fold(acc, NOTHING),
-        Sending::Sent(payload) => digits(acc, payload),
+        Err(refusal) => octet(acc, refusal.number()),
+        Ok(None) => fold(acc, NOTHING),
+        Ok(Some(payload)) => digits(acc, payload),
     }
 }
 
-fn received(acc: u64, received: dialled::Received) -> u64 {
-    let fill = received.fill;
-    let periods = received.periods;
-    let said = octet(octet(acc, received.number), received.fills);
-    let filled = octet(window(said, fill), received.carried);
-    windows(filled, periods[0], periods[1], periods[2])
+// What a digit receiver appends: beside a refusal, nothing.
+fn received(acc: u64, answer: Result<dialled::Appended, Refusal>) -> u64 {
+    match answer {
+        Ok(appended) => appended_digits(octet(acc, refusal::SOUND), appended),
+        Err(refusal) => {
+            let off = digits::layout::off_window();
+            let nothing = dialled::Appended {
+                fills: 0,
+                fill: off,
+                carried: 0,
+                periods: [off; 3],
+            };
+            appended_digits(octet(acc, refusal.number()), nothing)
+        }
+    }
+}
+
+fn appended_digits(acc: u64, appended: dialled::Appended) -> u64 {
+    let [first, second, third] = appended.periods;
+    let filled = octet(
+        window(octet(acc, appended.fills), appended.fill),
+        appended.carried,
+    );
+    windows(filled, first, second, third)
 }
 
 // The entry of eleven octets.
 fn signalling_entry(item: &[u8]) -> seizing::Entry {
     let mut samples = [0u8; 10];
-    octets::put_octets(&mut samples, 0, crate::items::part(item, 1, 10));
+    let _ = octets::put_octets(&mut samples, 0, crate::items::part(item, 1, 10));
     seizing::Entry {
         alarm: octets::octet(item, 0) % 2 == 1,
         samples,
     }
 }
 
-fn sent(acc: u64, sent: Sent) -> u64 {
-    if sent.number != 0 {
-        return octet(acc, sent.number);
+fn sent(acc: u64, answer: Result<Option<Signalling>, Refusal>) -> u64 {
+    match answer {
+        Err(refusal) => octet(acc, refusal.number()),
+        Ok(None) => fold(acc, NOTHING),
+        Ok(Some(payload)) => signalling(acc, payload),
     }
-    if sent.due {
-        let payload = sent.signalling;
-        return signalling(acc, payload);
-    }
-    fold(acc, NOTHING)
 }
 
-fn seized(acc: u64, received: seized::Received) -> u64 {
-    let periods = received.periods;
-    let receiver = received.receiver;
-    let said = octet(octet(acc, received.number), received.fills);
-    let filled = octet(octet(said, received.fill), received.carried);
-    let carried = crate::fold::samples(filled, periods);
-    fold(octet(carried, receiver.value), flag(receiver.alarm))
+// What a signalling receiver appends: beside a refusal, nothing.
+fn seized(acc: u64, answer: Result<seized::Appended, Refusal>) -> u64 {
+    match answer {
+        Ok(appended) => appended_signalling(octet(acc, refusal::SOUND), appended),
+        Err(refusal) => {
+            let nothing = seized::Appended {
+                fills: 0,
+                fill: 0,
+                carried: 0,
+                periods: [0u8; 30],
+            };
+            appended_signalling(octet(acc, refusal.number()), nothing)
+        }
+    }
+}
+
+fn appended_signalling(acc: u64, appended: seized::Appended) -> u64 {
+    let filled = octet(
+        octet(octet(acc, appended.fills), appended.fill),
+        appended.carried,
+    );
+    crate::fold::samples(filled, appended.periods)
 }
 
 // The items as entries to one digit sender.
-fn send_digits(items: &[u8], begin: Place) -> u64 {
-    let mut sender = dialling::fresh();
-    let mut acc = crate::fold::FIRST;
-    let mut walk = begin;
-    while 0 < walk.left {
-        walk = crate::items::next(items, walk);
-        let octets = crate::items::octets_of(items, walk);
-        let taken = dialling::send(sender, digit_entry(octets));
-        sender = taken.sender;
-        let answer = taken.answer;
-        acc = sending(acc, answer);
-    }
-    acc
+fn send_digits(items: &[u8], works: Works) -> u64 {
+    let mut sender = dialling::Sender::fresh();
+    crate::items::each(items, works, |acc, item| {
+        sending(acc, sender.send(digit_entry(item)))
+    })
 }
 
 // The items as payloads to one digit receiver.
-fn receive_digits(items: &[u8], begin: Place) -> u64 {
-    let mut receiver = dialled::fresh();
-    let mut acc = crate::fold::FIRST;
-    let mut walk = begin;
-    while 0 < walk.left {
-        walk = crate::items::next(items, walk);
-        let octets = crate::items::octets_of(items, walk);
-        let answer = dialled::receive(receiver, octets);
-        receiver = answer.receiver;
-        acc = received(acc, answer);
-    }
-    acc
+fn receive_digits(items: &[u8], works: Works) -> u64 {
+    let mut receiver = dialled::Receiver::fresh();
+    crate::items::each(
+        items,
+        works,
+        |acc, item| received(acc, receiver.receive(item)),
+    )
 }
 
-// The items as entries to one signalling sender.
-fn send_signalling(items: &[u8], begin: Place) -> u64 {
-    let started = seizing::start(0);
-    let mut sender = started.sender;
-    let mut acc = crate::fold::FIRST;
-    let mut walk = begin;
-    while 0 < walk.left {
-        walk = crate::items::next(items, walk);
-        let octets = crate::items::octets_of(items, walk);
-        let answer = seizing::send(sender, signalling_entry(octets));
-        sender = answer.sender;
-        acc = sent(acc, answer);
-    }
-    acc
+// The items as entries to one signalling sender; the start value 0 is allowed.
+fn send_signalling(items: &[u8], works: Works) -> u64 {
+    let Ok(mut sender) = seizing::Sender::start(0) else {
+        return crate::fold::FIRST;
+    };
+    crate::items::each(items, works, |acc, item| {
+        sent(acc, sender.send(signalling_entry(item)))
+    })
 }
 
 // The items as payloads to one signalling receiver.
-fn receive_signalling(items: &[u8], begin: Place) -> u64 {
-    let mut receiver = seized::fresh();
-    let mut acc = crate::fold::FIRST;
-    let mut walk = begin;
-    while 0 < walk.left {
-        walk = crate::items::next(items, walk);
-        let octets = crate::items::octets_of(items, walk);
-        let answer = seized::receive(receiver, octets);
-        receiver = answer.receiver;
-        acc = seized(acc, answer);
-    }
-    acc
+fn receive_signalling(items: &[u8], works: Works) -> u64 {
+    let mut receiver = seized::Receiver::fresh();
+    crate::items::each(items, works, |acc, item| {
+        let folded = seized(acc, receiver.receive(item));
+        fold(octet(folded, receiver.value), flag(receiver.alarm))
+    })
 }
 
 // What modulation-on and -off bring: HDLC, modulation, frequency and stamp, 0 where there is none.
@@ -179,49 +179,48 @@ fn done(acc: u64, did: Did) -> u64 {
 // The octets that are handed on.
 fn page(start: u64, octets: &[u8], count: u8) -> u64 {
     let mut acc = start;
-    let mut i: usize = 0;
-    let end = octets::least(octets::wide(count), octets.len());
-    while i < end {
-        acc = octet(acc, octets[i]);
-        i += 1;
+    for x in octets.iter().take(usize::from(count)) {
+        acc = octet(acc, *x);
     }
     acc
 }
 
-fn faxed(acc: u64, received: faxing::Received) -> u64 {
-    let octets = received.octets;
-    let did = received.did;
-    let said = fold(octet(acc, received.number), flag(received.gap));
-    done(
-        page(octet(said, received.count), &octets, received.count),
-        did,
-    )
+// What the fax replay hands on: beside a refusal, nothing.
+fn faxed(acc: u64, answer: Result<faxing::Handed, Refusal>) -> u64 {
+    match answer {
+        Ok(handed) => handed_on(octet(acc, refusal::SOUND), handed),
+        Err(refusal) => {
+            let nothing = faxing::Handed {
+                gap: false,
+                count: 0,
+                octets: [0u8; 72],
+                did: Did::Nothing,
+            };
+            handed_on(octet(acc, refusal.number()), nothing)
+        }
+    }
+}
+
+fn handed_on(acc: u64, handed: faxing::Handed) -> u64 {
+    let said = octet(fold(acc, flag(handed.gap)), handed.count);
+    done(page(said, &handed.octets, handed.count), handed.did)
 }
 
 // The items as payloads to one fax replay.
-fn receive_fax(items: &[u8], begin: Place) -> u64 {
-    let mut receiver = faxing::fresh();
-    let mut acc = crate::fold::FIRST;
-    let mut walk = begin;
-    while 0 < walk.left {
-        walk = crate::items::next(items, walk);
-        let octets = crate::items::octets_of(items, walk);
-        let answer = faxing::receive(receiver, octets);
-        receiver = answer.receiver;
-        acc = faxed(acc, answer);
-    }
-    acc
+fn receive_fax(items: &[u8], works: Works) -> u64 {
+    let mut receiver = faxing::Receiver::fresh();
+    crate::items::each(items, works, |acc, item| faxed(acc, receiver.receive(item)))
 }
 
 // The work of a row, by its letter; `n` is the walk over the items alone.
-pub fn work_of(row: u8, items: &[u8], begin: Place) -> u64 {
+pub fn work_of(row: u8, items: &[u8], works: Works) -> u64 {
     match row {
-        b'd' => send_digits(items, begin),
-        b'e' => receive_digits(items, begin),
-        b's' => send_signalling(items, begin),
-        b't' => receive_signalling(items, begin),
-        b'x' => receive_fax(items, begin),
-        b'n' => crate::items::walk(items, begin),
+        b'd' => send_digits(items, works),
+        b'e' => receive_digits(items, works),
+        b's' => send_signalling(items, works),
+        b't' => receive_signalling(items, works),
+        b'x' => receive_fax(items, works),
+        b'n' => crate::items::each(items, works, |acc, item| octet(acc, octets::octet(item, 0))),
         _ => crate::fold::FIRST,
     }
 }

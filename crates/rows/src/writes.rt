@@ -1,14 +1,13 @@
 // A mixed frame written, from the octets of an item.
 use crate::fold::{fold, octet};
-use crate::items::{Place, pair, part};
+use crate::items::{Works, pair, part};
 use counts::{DataCount, DigitCount, SignallingCount, VoiceCount};
 use digits::layout::{Digits, Window};
-use fax::{Command, Stamp};
+use fax::Command;
 use place::Writer;
+use refusal::Refusal;
 use sid::Sid;
 use signalling::layout::Signalling;
-use writer::primary::Primary;
-use writer::signalled::Signalled;
 
 // The place of the first octet of the material that passes through.
 const BODY: usize = 64;
@@ -16,10 +15,8 @@ const BODY: usize = 64;
 // Every octet of the room.
 fn octets(acc: u64, room: &[u8]) -> u64 {
     let mut folded = acc;
-    let mut i: usize = 0;
-    while i < room.len() {
-        folded = octet(folded, room[i]);
-        i += 1;
+    for x in room {
+        folded = octet(folded, *x);
     }
     folded
 }
@@ -34,31 +31,71 @@ fn ended(acc: u64, frame: &[u8], at: usize) -> u64 {
 
 // A frame of six sub-frames written into as much of the room as the item says, to the first refusal; the place after each is folded.
 fn write(acc: u64, room: &mut [u8], m: &[u8], table: &[u16; 256]) -> u64 {
-    let n = crate::items::size(m, 0);
-    if n < room.len() {
-        return write_voice(acc, &mut room[..n], m, table);
-    }
-    write_voice(acc, room, m, table)
-}
-
-fn write_voice(acc: u64, frame: &mut [u8], m: &[u8], table: &[u16; 256]) -> u64 {
     if m.len() != 325 {
         return acc;
     }
-    let answer = writer::primary::write_voice(
+    let size = crate::items::size(m, 0).min(room.len());
+    let mut folded = acc;
+    match write_six(&mut folded, &mut room[..size], m, table) {
+        Ok(writer) => ended(folded, &room[..size], writer.at),
+        Err(refusal) => octet(folded, refusal.number()),
+    }
+}
+
+fn write_six(
+    acc: &mut u64,
+    frame: &mut [u8],
+    m: &[u8],
+    table: &[u16; 256],
+) -> Result<Writer, Refusal> {
+    let spoken = write_voice(frame, place::fresh(), m, table)?;
+    *acc = placed(*acc, spoken);
+    let cid = octets::octet(m, 6);
+    let dialled = writer::signalled::write_digits(frame, spoken, false, table, cid, digits_in(m))?;
+    *acc = placed(*acc, dialled);
+    let cid = octets::octet(m, 18);
+    let seized = writer::signalled::write_signalling(
         frame,
-        place::fresh(),
+        dialled,
+        false,
+        table,
+        cid,
+        signalling_in(m),
+    )?;
+    *acc = placed(*acc, seized);
+    let faxed = write_fax(frame, seized, m, table)?;
+    *acc = placed(*acc, faxed);
+    let sid = sid_in(octets::octet(m, 3), octets::octet(m, 63));
+    let silent = writer::signalled::write_sid(
+        frame,
+        faxed,
+        false,
+        table,
+        octets::octet(m, 62),
+        sid,
+    )?;
+    *acc = placed(*acc, silent);
+    let last = write_data(frame, silent, m, table)?;
+    *acc = placed(*acc, last);
+    Ok(last)
+}
+
+fn write_voice(
+    frame: &mut [u8],
+    writer: Writer,
+    m: &[u8],
+    table: &[u16; 256],
+) -> Result<Writer, Refusal> {
+    writer::primary::write_voice(
+        frame,
+        writer,
         false,
         table,
         octets::octet(m, 2),
         VoiceCount(octets::octet(m, 3)),
         octets::octet(m, 4),
         body(m, 5),
-    );
-    match answer {
-        Primary::PrimaryTaken(next) => write_digits(placed(acc, next), next, frame, m, table),
-        Primary::PrimaryRefused(number) => octet(acc, number),
-    }
+    )
 }
 
 // The place after a sub-frame.
@@ -73,16 +110,6 @@ fn body(m: &[u8], at: usize) -> &[u8] {
 
 fn odd(m: &[u8], at: usize) -> bool {
     octets::octet(m, at) % 2 == 1
-}
-
-fn write_digits(acc: u64, writer: Writer, frame: &mut [u8], m: &[u8], table: &[u16; 256]) -> u64 {
-    let cid = octets::octet(m, 6);
-    match writer::signalled::write_digits(frame, writer, false, table, cid, digits_in(m)) {
-        Signalled::SignalledTaken(next) => {
-            write_signalling(placed(acc, next), next, frame, m, table)
-        }
-        Signalled::SignalledRefused(number) => octet(acc, number),
-    }
 }
 
 fn digits_in(m: &[u8]) -> Digits {
@@ -115,23 +142,9 @@ fn window(on: u8, edge: u8, code: u8) -> Window {
     }
 }
 
-fn write_signalling(
-    acc: u64,
-    writer: Writer,
-    frame: &mut [u8],
-    m: &[u8],
-    table: &[u16; 256],
-) -> u64 {
-    let cid = octets::octet(m, 18);
-    match writer::signalled::write_signalling(frame, writer, false, table, cid, signalling_in(m)) {
-        Signalled::SignalledTaken(next) => write_fax(placed(acc, next), next, frame, m, table),
-        Signalled::SignalledRefused(number) => octet(acc, number),
-    }
-}
-
 fn signalling_in(m: &[u8]) -> Signalling {
     let mut samples = [0u8; 30];
-    octets::put_octets(&mut samples, 0, part(m, 21, 30));
+    let _ = octets::put_octets(&mut samples, 0, part(m, 21, 30));
     Signalling {
         alarm: odd(m, 19),
         sequence: SignallingCount(octets::octet(m, 20)),
@@ -139,8 +152,13 @@ fn signalling_in(m: &[u8]) -> Signalling {
     }
 }
 
-fn write_fax(acc: u64, writer: Writer, frame: &mut [u8], m: &[u8], table: &[u16; 256]) -> u64 {
-    let answer = writer::signalled::write_fax(
+fn write_fax(
+    frame: &mut [u8],
+    writer: Writer,
+    m: &[u8],
+    table: &[u16; 256],
+) -> Result<Writer, Refusal> {
+    writer::signalled::write_fax(
         frame,
         writer,
         false,
@@ -150,18 +168,11 @@ fn write_fax(acc: u64, writer: Writer, frame: &mut [u8], m: &[u8], table: &[u16;
         stamp(m),
         command(m),
         body(m, 61),
-    );
-    match answer {
-        Signalled::SignalledTaken(next) => write_sid(placed(acc, next), next, frame, m, table),
-        Signalled::SignalledRefused(number) => octet(acc, number),
-    }
+    )
 }
 
-fn stamp(m: &[u8]) -> Stamp {
-    if odd(m, 53) {
-        return Stamp::Stamped(pair(m, 54));
-    }
-    Stamp::NoStamp
+fn stamp(m: &[u8]) -> Option<u16> {
+    odd(m, 53).then_some(pair(m, 54))
 }
 
 fn command(m: &[u8]) -> Command {
@@ -178,14 +189,6 @@ fn command(m: &[u8]) -> Command {
     }
 }
 
-fn write_sid(acc: u64, writer: Writer, frame: &mut [u8], m: &[u8], table: &[u16; 256]) -> u64 {
-    let sid = sid_in(octets::octet(m, 3), octets::octet(m, 63));
-    match writer::signalled::write_sid(frame, writer, false, table, octets::octet(m, 62), sid) {
-        Signalled::SignalledTaken(next) => write_data(placed(acc, next), next, frame, m, table),
-        Signalled::SignalledRefused(number) => octet(acc, number),
-    }
-}
-
 fn sid_in(sequence: u8, level: u8) -> Sid {
     if level == 1 {
         return Sid::Plain;
@@ -196,8 +199,13 @@ fn sid_in(sequence: u8, level: u8) -> Sid {
     }
 }
 
-fn write_data(acc: u64, writer: Writer, frame: &mut [u8], m: &[u8], table: &[u16; 256]) -> u64 {
-    let answer = writer::primary::write_data(
+fn write_data(
+    frame: &mut [u8],
+    writer: Writer,
+    m: &[u8],
+    table: &[u16; 256],
+) -> Result<Writer, Refusal> {
+    writer::primary::write_data(
         frame,
         writer,
         true,
@@ -207,36 +215,19 @@ fn write_data(acc: u64, writer: Writer, frame: &mut [u8], m: &[u8], table: &[u16
         octets::octet(m, 321) / 2 % 2 == 1,
         DataCount(pair(m, 322)),
         body(m, 324),
-    );
-    match answer {
-        Primary::PrimaryTaken(next) => ended(placed(acc, next), frame, next.at),
-        Primary::PrimaryRefused(number) => octet(acc, number),
-    }
-}
-
-// With `all`, the whole room.
-fn shown(acc: u64, room: &[u8], all: bool) -> u64 {
-    if all {
-        return octets(acc, room);
-    }
-    acc
+    )
 }
 
 // A frame written from each item; with `all`, the whole room is folded too.
 pub fn write_each(
     items: &mut [u8],
-    begin: Place,
+    works: Works,
     table: &[u16; 256],
     room: &mut [u8],
     all: bool,
 ) -> u64 {
-    let mut acc = crate::fold::FIRST;
-    let mut walk = begin;
-    while 0 < walk.left {
-        walk = crate::items::next(items, walk);
-        crate::items::set_in(items, walk, BODY, acc);
-        acc = write(acc, room, crate::items::octets_of(items, walk), table);
-        acc = shown(acc, room, all);
-    }
-    acc
+    crate::items::each_changed(items, works, Some(BODY), |acc, m| {
+        let folded = write(acc, room, m, table);
+        if all { octets(folded, room) } else { folded }
+    })
 }

@@ -2,77 +2,73 @@
 use Prim.Native.Nat.{ℕ, ◌<◌, ◌≤◌}
 use mathlib.Core.Path.{◌≡◌, refl, sym, ap, ◌∙◌}
 use mathlib.Core.List.{List}
-use mathlib.Core.Bool.{true, false}
+use mathlib.Core.Bool.{Bool, true, false, cond}
 use mathlib.Core.Logic.{⊎_elim}
 use native.Mathlib.Omega.{arith}
 use lib.Dec.{eqb}
 use lib.ListN.{length}
-use Rattle.refusal.specs.Numbers.{sound, length_wrong, older_payload}
-use Rattle.octets.proofs.Order.{either, eq-or-ne, lt-or-le}
-use Rattle.signalling.specs.Layout.{signalling_read}
+use Rattle.std.specs.declared.result.Result.{Result}
+use Rattle.std.specs.declared.result.Result.TheVariants.{Ok, Err}
+use Rattle.refusal.specs.Numbers.{number, sound}
+use Rattle.refusal.specs.declared.Refusal.{Refusal}
+use Rattle.refusal.specs.declared.Refusal.TheVariants.{LengthWrong, OlderPayload}
+use Rattle.octets.proofs.Order.{lt-or-le, picked}
+use Rattle.replay.specs.Rule.{older as is_older}
+use Rattle.signalling.specs.declared.layout.Signalling.{Signalling}
+use Rattle.signalling.specs.Layout.{signalling_in, signalling_read}
 use Rattle.seized.specs.declared.Receiver.{Receiver}
-use Rattle.seized.specs.declared.Received.{Received}
-use Rattle.seized.specs.Receiver.{farthest, step_from, passed_over, received}
+use Rattle.seized.specs.Receiver.{Received, farthest, step_from, passed_over, received_by, received, number_in}
 use Rattle.seized.specs.Claims.{Older}
 use Rattle.seized.proofs.ReceiverCases.{late, in-time, accepted, refused}
 
-abbrev number_of : Received → ℕ
-number_of x = x.number
-
-not_read : (payload : List ℕ) → (signalling_read payload).number ≡ older_payload → ⊥
+not_read : (payload : List ℕ) (refusal : Refusal) → signalling_read payload ≡ Err refusal → number refusal ≡ number OlderPayload → ⊥
 unfolding signalling_read
-not_read payload e =
-    either
-    (λ (t : eqb (length payload) 16 ≡ true). let z : ◌≡◌ {A = ℕ} sound older_payload = rw t at e in omega arith)
-    (λ (t : eqb (length payload) 16 ≡ false). let z : ◌≡◌ {A = ℕ} length_wrong older_payload = rw t at e in omega arith)
-    (eqb (length payload) 16)
-    refl
+not_read payload refusal is = go (eqb (length payload) 16) is
+  where
+    go : (t : Bool) → cond t (Ok (signalling_in payload)) (Err LengthWrong) ≡ Err refusal → number refusal ≡ number OlderPayload → ⊥
+    go true e = cc
+    go false e = let same : LengthWrong ≡ refusal = cc in rw (← same) (λ z. omega arith)
+
+module _ (r : Receiver) (refusal : Refusal) where
+  abbrev Stood : Received → Type 0
+  Stood x = x.answer ≡ Err refusal → x ≡ passed_over r refusal
+
+  stood : (read : Result Signalling Refusal) → Stood (received_by r read)
+  stood (Ok s) = picked Stood (is_older farthest (step_from r s.sequence)) _ _ (λ late is. cc) (λ in_time is. cc)
+  stood (Err refused) = λ is. cc
 
 module _ (r : Receiver) (payload : List ℕ) where
-  abbrev step : ℕ
-  step = step_from r (signalling_read payload).signalling.sequence
-
   -- a payload that reads, by its step
-  module _ (reads : (signalling_read payload).number ≡ sound) where
-    beyond : farthest < step → received r payload ≡ passed_over r older_payload
-    beyond less = accepted r payload (signalling_read payload) refl reads ∙ late r (signalling_read payload).signalling step less
+  module _ (s : Signalling) (reads : signalling_read payload ≡ Ok s) where
+    beyond : farthest < step_from r s.sequence → received r payload ≡ passed_over r OlderPayload
+    beyond less = accepted r payload s reads ∙ late r s (step_from r s.sequence) less
 
-    within : step ≤ farthest → (received r payload).number ≡ sound
-    within most = ap number_of (accepted r payload (signalling_read payload) refl reads ∙ in-time r (signalling_read payload).signalling step most)
+    within : step_from r s.sequence ≤ farthest → number_in (received r payload) ≡ sound
+    within most = ap number_in (accepted r payload s reads ∙ in-time r s (step_from r s.sequence) most)
 
-    told : (received r payload).number ≡ older_payload → farthest < step
-    told e = ⊎_elim (λ less. less) (λ most. let z : ◌≡◌ {A = ℕ} sound older_payload = sym (within most) ∙ e in absurd (omega arith)) (lt-or-le farthest step)
+    told : number_in (received r payload) ≡ number OlderPayload → farthest < step_from r s.sequence
+    told e =
+        ⊎_elim (λ less. less)
+        (λ most. let taken = within most in absurd (omega arith))
+        (lt-or-le farthest (step_from r s.sequence))
 
-  unread : ((signalling_read payload).number ≡ sound → ⊥) → received r payload ≡ passed_over r (signalling_read payload).number
-  unread wrong = refused r payload (signalling_read payload) refl wrong
-
-  passed : (number : ℕ) → received r payload ≡ passed_over r number → received r payload ≡ passed_over r (received r payload).number
-  passed number is = is ∙ ap (passed_over r) (sym (ap number_of is))
-
-  stands : ((received r payload).number ≡ sound → ⊥) → received r payload ≡ passed_over r (received r payload).number
-  stands h =
-      ⊎_elim
-      (λ reads. ⊎_elim (λ less. passed older_payload (beyond reads less)) (λ most. absurd (h (within reads most))) (lt-or-le farthest step))
-      (λ wrong. passed (signalling_read payload).number (unread wrong))
-      (eq-or-ne (signalling_read payload).number sound)
-
-  first : r.heard ≡ false → (received r payload).number ≡ older_payload → ⊥
-  first fresh e =
-      ⊎_elim
-      (λ reads.
-      let less : farthest < step = told reads e in
-      let three : step ≡ 3 = rw fresh refl in
-      omega (arith, less, three))
-      (λ wrong. not_read payload (sym (ap number_of (unread wrong)) ∙ e))
-      (eq-or-ne (signalling_read payload).number sound)
+  first : r.heard ≡ false → number_in (received r payload) ≡ number OlderPayload → ⊥
+  first fresh e = go (signalling_read payload) refl
+    where
+      go : (read : Result Signalling Refusal) → signalling_read payload ≡ read → ⊥
+      go (Ok s) is =
+          let less : farthest < step_from r s.sequence = told s is e in
+          let three : step_from r s.sequence ≡ 3 = rw fresh refl in
+          omega (arith, less, three)
+      go (Err refusal) is = not_read payload refusal is (sym (ap number_in (refused r payload refusal is)) ∙ e)
 
 pub older : Older
 older =
     record {
-      after_reading = unread;
+      after_reading = refused;
       not_read = not_read;
-      exactly = λ r payload reads. (told r payload reads, λ less. ap number_of (beyond r payload reads less));
+      exactly = λ r payload s reads. (told r payload s reads, λ less. ap number_in (beyond r payload s reads less));
       else_taken = within;
-      stands = stands;
+      stands = λ r payload refusal. unfold received in stood r refusal (signalling_read payload);
       first = first;
     }

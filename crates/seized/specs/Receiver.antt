@@ -1,14 +1,15 @@
 -- The signalling receiver (document 01, "Receivers"; document 02, wish 3). The state holds the last sample of the record, which
 -- fills repeat, beside the current value, which a step of 0 sets too.
-use Rattle.std.specs.Prelude.{ℕ, ◌*◌, List, ◌++◌, true, false, cond, eqb, get_or, drop, replicate}
-use Rattle.refusal.specs.Numbers.{sound, older_payload}
+use Rattle.std.specs.Prelude.{ℕ, ◌*◌, List, ◌++◌, true, false, cond, eqb, get_or, drop, replicate, Result, Ok, Err}
+use Rattle.refusal.specs.Numbers.{number, sound}
+use Rattle.refusal.specs.declared.Refusal.{Refusal}
+use Rattle.refusal.specs.declared.Refusal.TheVariants.{OlderPayload}
 use Rattle.counts.specs.Round.{step}
 use Rattle.counts.specs.declared.SignallingCount.{SignallingCount}
 use Rattle.replay.specs.Rule.{step_taken, older, fill_count, carried_count, unused_count}
 use Rattle.signalling.specs.declared.layout.Signalling.{Signalling}
-use Rattle.signalling.specs.declared.layout.SignallingRead.{SignallingRead}
 use Rattle.seized.specs.declared.Receiver.{Receiver}
-use Rattle.seized.specs.declared.Received.{Received}
+use Rattle.seized.specs.declared.Appended.{Appended}
 use Rattle.signalling.specs.Layout.{signalling_read}
 
 -- "it and the alarm start at 0"
@@ -44,38 +45,53 @@ receiver_after r s step =
       alarm = s.alarm;
     }
 
+-- What becomes of a payload: what it appends, or its refusal; and the receiver after it.
+pub record Received : Type 0 where
+  pub answer : Result Appended Refusal
+  pub receiver : Receiver
+
+-- The number of an answer, 0 where it is no refusal; and what it appends: beside a refusal nothing, with the unused places 0.
+abbrev pub number_of : Result Appended Refusal → ℕ
+number_of (Ok appended) = sound
+number_of (Err refusal) = number refusal
+
+abbrev pub nothing_appended : Appended
+nothing_appended = record { fills = 0; fill = 0; carried = 0; periods = replicate 30 0 }
+
+abbrev pub appended_of : Result Appended Refusal → Appended
+appended_of (Ok appended) = appended
+appended_of (Err refusal) = nothing_appended
+
+abbrev pub number_in : Received → ℕ
+number_in x = number_of x.answer
+
+abbrev pub appended_in : Received → Appended
+appended_in x = appended_of x.answer
+
 -- "The answer is the fill count, fill content, carried count and carried periods".
 abbrev pub appended : Receiver → Signalling → ℕ → Received
 appended r s step =
     record {
-      number = sound;
-      fills = fill_count step;
-      fill = fill_of r step;
-      carried = carried_count step;
-      periods = periods_of s.samples step;
+      answer = Ok (record {
+        fills = fill_count step;
+        fill = fill_of r step;
+        carried = carried_count step;
+        periods = periods_of s.samples step;
+      });
       receiver = receiver_after r s step;
     }
 
 -- A refused payload changes nothing.
-abbrev pub passed_over : Receiver → ℕ → Received
-passed_over r number =
-    record {
-      number = number;
-      fills = 0;
-      fill = 0;
-      carried = 0;
-      periods = replicate 30 0;
-      receiver = r;
-    }
+abbrev pub passed_over : Receiver → Refusal → Received
+passed_over r refusal = record { answer = Err refusal; receiver = r }
 
 -- "as older and change nothing": 19, and only where reading refuses nothing, so "after 15".
 abbrev pub replayed : Receiver → Signalling → ℕ → Received
-replayed r s step = cond (older farthest step) (passed_over r older_payload) (appended r s step)
+replayed r s step = cond (older farthest step) (passed_over r OlderPayload) (appended r s step)
 
-abbrev pub received_by : Receiver → SignallingRead → Received
-received_by r read =
-    cond (eqb read.number sound) (replayed r read.signalling (step_from r read.signalling.sequence))
-    (passed_over r read.number)
+abbrev pub received_by : Receiver → Result Signalling Refusal → Received
+received_by r (Ok signalling) = replayed r signalling (step_from r signalling.sequence)
+received_by r (Err refusal) = passed_over r refusal
 
 unfoldable pub received : Receiver → List ℕ → Received
 received r payload = received_by r (signalling_read payload)

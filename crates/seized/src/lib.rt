@@ -2,9 +2,10 @@
 #![tactic(auto)]
 
 ghost use Rattle.std.specs.Prelude.{◌≡◌};
-ghost use Rattle.seized.specs.Receiver.{fresh_receiver, step_from, fill_of, periods_of, receiver_after, appended, passed_over, replayed, received};
+ghost use Rattle.seized.specs.Receiver.{fresh_receiver, step_from, fill_of, periods_of, receiver_after, received};
 
 use counts::SignallingCount;
+use refusal::Refusal;
 use signalling::layout::Signalling;
 
 // The farthest step that is replayed; a payload beyond it is older.
@@ -21,47 +22,14 @@ pub struct Receiver {
     pub alarm: bool,
 }
 
-// What a payload brings about: the refusal number, 0 where it is accepted; how many filled periods it appends, and the
-// sample of which each is ten; how many carried periods, their samples oldest first from place 0, then 0; and the receiver.
+// What a payload appends: how many filled periods, and the sample of which each is ten; how many carried periods, their samples
+// oldest first from place 0, then 0.
 #[derive(Clone, Copy)]
-pub struct Received {
-    pub number: u8,
+pub struct Appended {
     pub fills: u8,
     pub fill: u8,
     pub carried: u8,
     pub periods: [u8; 30],
-    pub receiver: Receiver,
-}
-
-// A receiver that has heard nothing yet.
-pub fn fresh() -> Receiver
-    ensures { result ≡ fresh_receiver }
-{
-    Receiver {
-        heard: false,
-        last: SignallingCount(0),
-        tail: 0,
-        value: 0,
-        alarm: false,
-    }
-}
-
-// The step that a payload takes, by its sequence.
-fn step_from(receiver: Receiver, new: SignallingCount) -> u8
-    ensures { result ≡ step_from receiver new }
-{
-    let last = receiver.last;
-    replay::step_taken(receiver.heard, last.step_to(new))
-}
-
-// The content of the fills, ten of one sample each; 0 where there are none.
-fn fill_of(receiver: Receiver, step: u8) -> u8
-    ensures { result ≡ fill_of receiver step }
-{
-    if replay::fill_count(step) == 0 {
-        return 0;
-    }
-    receiver.tail
 }
 
 // The newest periods of a payload, oldest first, from place 0 on.
@@ -70,82 +38,82 @@ fn periods_of(samples: [u8; 30], step: u8) -> [u8; 30]
 {
     let mut periods = [0u8; 30];
     let from = octets::wide(3 - replay::carried_count(step)) * 10;
-    octets::put_octets(&mut periods, 0, &samples[from..]);
+    periods[..30 - from].copy_from_slice(&samples[from..]);
     periods
 }
 
-// The receiver after an accepted payload.
-fn receiver_after(receiver: Receiver, signalling: Signalling, step: u8) -> Receiver
-    ensures { result ≡ receiver_after receiver signalling step }
-{
-    let samples = signalling.samples;
-    let sequence = signalling.sequence;
-    if step == 0 {
-        return Receiver {
+impl Receiver {
+    // A receiver that has heard nothing yet.
+    pub fn fresh() -> Receiver
+        ensures { result ≡ fresh_receiver }
+    {
+        Receiver {
+            heard: false,
+            last: SignallingCount(0),
+            tail: 0,
+            value: 0,
+            alarm: false,
+        }
+    }
+
+    // The step that a payload takes, by its sequence.
+    fn step_from(self, new: SignallingCount) -> u8
+        ensures { result ≡ step_from self new }
+    {
+        replay::step_taken(self.heard, self.last.step_to(new))
+    }
+
+    // The content of the fills, ten of one sample each; 0 where there are none.
+    fn fill_of(self, step: u8) -> u8
+        ensures { result ≡ fill_of self step }
+    {
+        if replay::fill_count(step) == 0 {
+            return 0;
+        }
+        self.tail
+    }
+
+    // The receiver after an accepted payload.
+    fn receiver_after(self, signalling: Signalling, step: u8) -> Receiver
+        ensures { result ≡ receiver_after self signalling step }
+    {
+        let samples = signalling.samples;
+        if step == 0 {
+            return Receiver {
+                heard: true,
+                last: signalling.sequence,
+                tail: self.tail,
+                value: samples[0],
+                alarm: signalling.alarm,
+            };
+        }
+        Receiver {
             heard: true,
-            last: sequence,
-            tail: receiver.tail,
-            value: samples[0],
+            last: signalling.sequence,
+            tail: samples[29],
+            value: samples[29],
             alarm: signalling.alarm,
+        }
+    }
+
+    // Takes a signalling payload. A refused one, as an older one is, leaves the receiver as it was.
+    #[tactic(auto, unfolding(crate::specs::Receiver::received))]
+    pub fn receive(&mut self, payload: &[u8]) -> Result<Appended, Refusal>
+        ensures answer { result ≡ (received self.old payload.now).answer }
+        ensures after { self.new ≡ (received self.old payload.now).receiver }
+    {
+        let signalling = signalling::layout::read_signalling(payload)?;
+        let step = self.step_from(signalling.sequence);
+        if FARTHEST < step {
+            return Err(Refusal::OlderPayload);
+        }
+        let appended = Appended {
+            fills: replay::fill_count(step),
+            fill: self.fill_of(step),
+            carried: replay::carried_count(step),
+            periods: periods_of(signalling.samples, step),
         };
+        *self = self.receiver_after(signalling, step);
+        Ok(appended)
     }
-    Receiver {
-        heard: true,
-        last: sequence,
-        tail: samples[29],
-        value: samples[29],
-        alarm: signalling.alarm,
-    }
-}
-
-// What an accepted payload appends, by its step.
-fn appended(receiver: Receiver, signalling: Signalling, step: u8) -> Received
-    ensures { result ≡ appended receiver signalling step }
-{
-    let samples = signalling.samples;
-    Received {
-        number: refusal::SOUND,
-        fills: replay::fill_count(step),
-        fill: fill_of(receiver, step),
-        carried: replay::carried_count(step),
-        periods: periods_of(samples, step),
-        receiver: receiver_after(receiver, signalling, step),
-    }
-}
-
-// A refused payload changes nothing.
-fn passed_over(receiver: Receiver, number: u8) -> Received
-    ensures { result ≡ passed_over receiver number }
-{
-    Received {
-        number: number,
-        fills: 0,
-        fill: 0,
-        carried: 0,
-        periods: [0u8; 30],
-        receiver: receiver,
-    }
-}
-
-// A payload that reads, by its step: an older one changes nothing.
-fn replayed(receiver: Receiver, signalling: Signalling, step: u8) -> Received
-    ensures { result ≡ replayed receiver signalling step }
-{
-    if FARTHEST < step {
-        return passed_over(receiver, refusal::OLDER_PAYLOAD);
-    }
-    appended(receiver, signalling, step)
-}
-
-// Takes a signalling payload.
-pub fn receive(receiver: Receiver, payload: &[u8]) -> Received
-    ensures { result ≡ received receiver payload.now }
-{
-    let read = signalling::layout::read_signalling(payload);
-    if read.number == refusal::SOUND {
-        let signalling = read.signalling;
-        let sequence = signalling.sequence;
-        return replayed(receiver, signalling, step_from(receiver, sequence));
-    }
-    passed_over(receiver, read.number)
 }

@@ -6,8 +6,11 @@ use mathlib.Core.Bool.{Bool, true, false}
 use lib.ListN.{replicate}
 use Rattle.seizing.specs.declared.Entry.{Entry}
 use Rattle.seizing.specs.declared.Sender.{Sender}
-use Rattle.seizing.specs.Sender.{sender_from, all_equal, period, sent}
-use Rattle.signalling.specs.Layout.{nothing, all_allowed}
+use Rattle.seizing.specs.Sender.{sender_from, all_equal, period, refused, sent}
+use Rattle.std.specs.declared.option.Option.TheVariants.{Some}
+use Rattle.std.specs.declared.result.Result.TheVariants.{Ok}
+use Rattle.refusal.specs.declared.Refusal.TheVariants.{ValueOutOfRange}
+use Rattle.signalling.specs.Layout.{all_allowed}
 
 -- thirty samples: the first two are 1, the last 2 and the others 4
 abbrev samples : List ℕ
@@ -18,7 +21,7 @@ entry alarm sample = record { alarm = alarm; samples = replicate 10 sample }
 
 -- the first number is 0, and the start state stands before the first period
 pub first-sent :
-    (sent (sender_from 5) (entry false 5)).signalling ≡ record { alarm = false; sequence = record { 0 = 0 }; samples = replicate 30 5 }
+    (sent (sender_from 5) (entry false 5)).answer ≡ Ok (Some (record { alarm = false; sequence = record { 0 = 0 }; samples = replicate 30 5 }))
 unfolding sent period all_allowed all_equal
 first-sent = refl
 
@@ -34,15 +37,13 @@ long = record { last = record { 0 = 9 }; before = 5; quiet = 274; windows = samp
 pub repeat :
     sent long (entry true 5)
     ≡ record {
-      number = 0;
-      due = true;
-      signalling = record { alarm = true; sequence = record { 0 = 9 }; samples = samples };
+      answer = Ok (Some (record { alarm = true; sequence = record { 0 = 9 }; samples = samples }));
       sender = record { last = record { 0 = 9 }; before = 5; quiet = 25; windows = samples };
     }
 unfolding sent period all_allowed all_equal
 repeat = refl
 
 -- a sample of 16 is refused, and the state stands
-pub refused : sent long (entry true 16) ≡ record { number = 15; due = false; signalling = nothing; sender = long }
+pub wrong : sent long (entry true 16) ≡ refused long ValueOutOfRange
 unfolding sent period all_allowed all_equal
-refused = refl
+wrong = refl

@@ -8,11 +8,10 @@ use borrow.Author.Tests.{lt-ltb, le-ltb, le-leb, lt-leb, eq-eqb, ne_eqb}
 use Rattle.octets.proofs.Order.{lt-or-le}
 use Rattle.seizing.specs.declared.Entry.{Entry}
 use Rattle.seizing.specs.declared.Sender.{Sender}
-use Rattle.seizing.specs.declared.Sent.{Sent}
 use Rattle.seizing.specs.declared.Decision.{Decision}
 use Rattle.seizing.specs.declared.Decision.TheVariants.{Sends, Repeats, Rests}
 use Rattle.signalling.specs.Layout.{all_allowed}
-use Rattle.seizing.specs.Sender.{is_quiet, decision, run_after, decision_of, period, sent}
+use Rattle.seizing.specs.Sender.{Sent, is_quiet, decision, run_after, decision_of, period, sent}
 use Rattle.seizing.specs.Claims.{before, in_quiet_run, QuietRun}
 use Rattle.seizing.proofs.SenderCases as cases
 

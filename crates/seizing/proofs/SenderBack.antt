@@ -2,23 +2,24 @@
 use Prim.Native.Nat.{ℕ, ◌+◌, ◌-◌, ◌<◌, ◌≤◌}
 use mathlib.Core.Path.{◌≡◌, refl, sym, ap, subst, ◌∙◌}
 use mathlib.Core.List.{List, ◌∷◌, ◌++◌}
-use mathlib.Core.Bool.{Bool, true, false}
+use mathlib.Core.Bool.{Bool, true}
 use mathlib.Core.Logic.{⊎_elim}
 use native.Mathlib.Nat.{zero-add}
 use native.Mathlib.Omega.{arith}
 use lib.ListN.{length, get_or, drop, replicate, length-append, length-drop, length-replicate, get_or-replicate, get_or-append}
 use lib.Seq.{get_or-drop, get_or-append-add}
-use Rattle.octets.proofs.Order.{lt-or-le, clash, either}
+use Rattle.std.specs.declared.option.Option.TheVariants.{Some}
+use Rattle.std.specs.declared.result.Result.TheVariants.{Ok, Err}
+use Rattle.refusal.specs.declared.Refusal.TheVariants.{ValueOutOfRange}
+use Rattle.octets.proofs.Order.{lt-or-le, either}
 use Rattle.octets.specs.Made.{made}
-use Rattle.refusal.specs.Numbers.{sound}
 use Rattle.signalling.specs.declared.layout.Signalling.{Signalling}
 use Rattle.seizing.specs.declared.Entry.{Entry}
 use Rattle.seizing.specs.declared.Sender.{Sender}
-use Rattle.seizing.specs.declared.Sent.{Sent}
 use Rattle.seizing.specs.declared.Decision.{Decision}
 use Rattle.seizing.specs.declared.Decision.TheVariants.{Sends, Repeats, Rests}
 use Rattle.signalling.specs.Layout.{allowed, all_allowed, first_octet, pairs, signalling_read, signalling_made}
-use Rattle.seizing.specs.Sender.{sender_from, windows_after, decision_of, after_sent, after_unsent, payload_of, period, sent}
+use Rattle.seizing.specs.Sender.{Sent, sender_from, windows_after, started, decision_of, after_sent, after_unsent, payload_of, period, sent}
 use Rattle.seizing.specs.Claims.{Proper, SenderStarts, SenderStays, SentReadsBack}
 use Rattle.signalling.proofs.Samples.{allowed-looks, each-passes, all_pass}
 use Rattle.signalling.proofs.LayoutBack.{Fitting, made-octets, signalling-reads-back}
@@ -40,8 +41,12 @@ from-proper value h =
     }
 
 pub sender-starts : SenderStarts
-sender-starts value =
-    either (λ yes. rw yes (from-proper value yes)) (λ no. rw no (from-proper 0 refl)) (allowed value) refl
+sender-starts value s starts =
+    either
+    (λ yes. let is : started value ≡ Ok (sender_from value) = rw yes refl in let same : sender_from value ≡ s = cc in subst Proper same (from-proper value yes))
+    (λ no. let is : started value ≡ Err ValueOutOfRange = rw no refl in absurd cc)
+    (allowed value)
+    refl
 
 -- a proper state goes on by a period of ten allowed samples
 module _ (s : Sender) (e : Entry) (proper : Proper s) (ten : length e.samples ≡ 10) (fair : all_allowed 10 0 e.samples ≡ true) where
@@ -92,7 +97,7 @@ module _ (s : Sender) (e : Entry) (proper : Proper s) (ten : length e.samples �
 pub sender-stays : SenderStays
 sender-stays s e proper ten =
     either (λ fair. subst (λ (r : Sent). Proper r.sender) (sym (cases.taken s e fair)) (period-proper s e proper ten fair (decision_of s e)))
-    (λ wrong. subst (λ (r : Sent). Proper r.sender) (sym (cases.refused s e wrong)) proper)
+    (λ wrong. subst (λ (r : Sent). Proper r.sender) (sym (cases.wrong s e wrong)) proper)
     (all_allowed 10 0 e.samples)
     refl
 
@@ -101,7 +106,7 @@ abbrev pub Back : Signalling → Type 0
 Back signalling =
     (octets : List ℕ)
     × (signalling_made signalling ≡ made octets)
-    × (signalling_read octets ≡ record { number = sound; signalling = signalling })
+    × (signalling_read octets ≡ Ok signalling)
 
 pub payload-back : (s : Sender) (alarm : Bool) → Proper s → Back (payload_of s alarm)
 payload-back s alarm proper =
@@ -111,19 +116,18 @@ payload-back s alarm proper =
     let is_made : signalling_made payload ≡ made octets = made-octets payload fits in
     (octets, is_made, signalling-reads-back payload octets proper.thirty is_made)
 
-due-back : (s : Sender) (e : Entry) (d : Decision) → Proper (period s e d).sender → (period s e d).due ≡ true → Back (period s e d).signalling
+out-back : (s : Sender) (e : Entry) (d : Decision) (out : Signalling) → Proper (period s e d).sender → (period s e d).answer ≡ Ok (Some out) → Back out
 unfolding period
-due-back s e Sends proper due = payload-back (after_sent s e) e.alarm proper
-due-back s e Repeats proper due = payload-back (after_unsent s e) e.alarm proper
-due-back s e Rests proper due = clash false due refl
+out-back s e Sends out proper goes = let same : payload_of (after_sent s e) e.alarm ≡ out = cc in subst Back same (payload-back (after_sent s e) e.alarm proper)
+out-back s e Repeats out proper goes = let same : payload_of (after_unsent s e) e.alarm ≡ out = cc in subst Back same (payload-back (after_unsent s e) e.alarm proper)
+out-back s e Rests out proper goes = absurd cc
 
 pub sent-reads-back : SentReadsBack
-sent-reads-back s e proper ten due =
+sent-reads-back s e out proper ten goes =
     either
     (λ fair.
-    let is = cases.taken s e fair in
-    subst (λ (r : Sent). Back r.signalling) (sym is)
-    (due-back s e (decision_of s e) (period-proper s e proper ten fair (decision_of s e)) (ap (λ (r : Sent). r.due) (sym is) ∙ due)))
-    (λ wrong. clash (sent s e).due due (ap (λ (r : Sent). r.due) (cases.refused s e wrong)))
+    out-back s e (decision_of s e) out (period-proper s e proper ten fair (decision_of s e))
+    (sym (ap (λ (r : Sent). r.answer) (cases.taken s e fair)) ∙ goes))
+    (λ wrong. let no : (sent s e).answer ≡ Err ValueOutOfRange = ap (λ (r : Sent). r.answer) (cases.wrong s e wrong) in absurd cc)
     (all_allowed 10 0 e.samples)
     refl

@@ -1,8 +1,8 @@
 -- What is claimed of the signalling sender.
-use Rattle.std.specs.Prelude.{ℕ, zero, suc, ◌+◌, ◌-◌, ◌%◌, ◌≤◌, ◌≡◌, List, true, cond, leb, eqb, length}
-use Rattle.refusal.specs.Numbers.{sound}
+use Rattle.std.specs.Prelude.{ℕ, zero, suc, ◌+◌, ◌-◌, ◌%◌, ◌≤◌, ◌≡◌, List, true, cond, leb, eqb, length, Some, Ok}
 use Rattle.octets.specs.Made.{made}
 use Rattle.signalling.specs.Layout.{allowed, all_allowed, signalling_read, signalling_made}
+use Rattle.signalling.specs.declared.layout.Signalling.{Signalling}
 use Rattle.seizing.specs.declared.Entry.{Entry}
 use Rattle.seizing.specs.declared.Sender.{Sender}
 use Rattle.seizing.specs.declared.Decision.{Decision}
@@ -36,7 +36,7 @@ pub record Proper (s : Sender) : Type 0 where
 
 -- A sender starts in a proper state and stays in one. Proved in proofs/SenderBack.antt.
 abbrev pub SenderStarts : Type 0
-SenderStarts = (value : ℕ) → Proper (started value).sender
+SenderStarts = (value : ℕ) (s : Sender) → started value ≡ Ok s → Proper s
 
 abbrev pub SenderStays : Type 0
 SenderStays = (s : Sender) (e : Entry) → Proper s → length e.samples ≡ 10 → Proper (sent s e).sender
@@ -44,10 +44,10 @@ SenderStays = (s : Sender) (e : Entry) → Proper s → length e.samples ≡ 10 
 -- What it sends or repeats from there is made and reads back.
 abbrev pub SentReadsBack : Type 0
 SentReadsBack =
-    (s : Sender) (e : Entry)
+    (s : Sender) (e : Entry) (d : Signalling)
     → Proper s
     → length e.samples ≡ 10
-    → (sent s e).due ≡ true
+    → (sent s e).answer ≡ Ok (Some d)
     → (octets : List ℕ)
-    × (signalling_made (sent s e).signalling ≡ made octets)
-    × (signalling_read octets ≡ record { number = sound; signalling = (sent s e).signalling })
+    × (signalling_made d ≡ made octets)
+    × (signalling_read octets ≡ Ok d)

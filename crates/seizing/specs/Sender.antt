@@ -1,22 +1,21 @@
 -- Sending signalling (document 01, "Senders, per 20 ms"): "ten samples and the alarm bit; a start value is given."
-use Rattle.std.specs.Prelude.{ℕ, zero, suc, ◌+◌, List, ◌++◌, Bool, true, false, cond, ltb, eqb, get_or, drop, replicate}
-use Rattle.refusal.specs.Numbers.{sound, value_out_of_range}
+use Rattle.std.specs.Prelude.{ℕ, zero, suc, ◌+◌, List, ◌++◌, Bool, true, false, cond, ltb, eqb, get_or, drop, replicate, Option, Some, None, Result, Ok, Err}
+use Rattle.refusal.specs.declared.Refusal.{Refusal}
+use Rattle.refusal.specs.declared.Refusal.TheVariants.{ValueOutOfRange}
 use Rattle.counts.specs.Round.{onward}
 use Rattle.signalling.specs.declared.layout.Signalling.{Signalling}
 use Rattle.seizing.specs.declared.Entry.{Entry}
 use Rattle.seizing.specs.declared.Sender.{Sender}
-use Rattle.seizing.specs.declared.Started.{Started}
-use Rattle.seizing.specs.declared.Sent.{Sent}
 use Rattle.seizing.specs.declared.Decision.{Decision}
 use Rattle.seizing.specs.declared.Decision.TheVariants.{Sends, Repeats, Rests}
-use Rattle.signalling.specs.Layout.{allowed, nothing, all_allowed}
+use Rattle.signalling.specs.Layout.{allowed, all_allowed}
 
 -- "the start state standing before the first". The first number is to be 0, so the one before it is 127.
 abbrev pub sender_from : ℕ → Sender
 sender_from value = record { last = record { 0 = 127 }; before = value; quiet = 0; windows = replicate 30 value }
 
-abbrev pub started : ℕ → Started
-started value = cond (allowed value) (record { number = sound; sender = sender_from value }) (record { number = value_out_of_range; sender = sender_from 0 })
+abbrev pub started : ℕ → Result Sender Refusal
+started value = cond (allowed value) (Ok (sender_from value)) (Err ValueOutOfRange)
 
 -- every sample of n, from place i on, equals a sample
 unfoldable pub all_equal : ℕ → ℕ → ℕ → List ℕ → Bool
@@ -68,17 +67,26 @@ after_unsent s e =
 abbrev pub payload_of : Sender → Bool → Signalling
 payload_of s alarm = record { alarm = alarm; sequence = s.last; samples = s.windows }
 
-abbrev pub going_out : Sender → Bool → Sent
-going_out s alarm = record { number = sound; due = true; signalling = payload_of s alarm; sender = s }
+-- What becomes of a period: it is refused, nothing goes out, or a payload does; and the sender after it.
+pub record Sent : Type 0 where
+  pub answer : Result (Option Signalling) Refusal
+  pub sender : Sender
 
-abbrev pub nothing_due : Sender → ℕ → Sent
-nothing_due s number = record { number = number; due = false; signalling = nothing; sender = s }
+abbrev pub going_out : Sender → Bool → Sent
+going_out s alarm = record { answer = Ok (Some (payload_of s alarm)); sender = s }
+
+abbrev pub resting : Sender → Sent
+resting s = record { answer = Ok None; sender = s }
 
 -- A period that is not refused: "the last payload is repeated" as it stands after the last sent period.
 unfoldable pub period : Sender → Entry → Decision → Sent
 period s e Sends = going_out (after_sent s e) e.alarm
 period s e Repeats = going_out (after_unsent s e) e.alarm
-period s e Rests = nothing_due (after_unsent s e) sound
+period s e Rests = resting (after_unsent s e)
+
+-- A refused one leaves the state as it was.
+abbrev pub refused : Sender → Refusal → Sent
+refused s refusal = record { answer = Err refusal; sender = s }
 
 unfoldable pub sent : Sender → Entry → Sent
-sent s e = cond (all_allowed 10 0 e.samples) (period s e (decision_of s e)) (nothing_due s value_out_of_range)
+sent s e = cond (all_allowed 10 0 e.samples) (period s e (decision_of s e)) (refused s ValueOutOfRange)

@@ -1,11 +1,12 @@
 // Sending signalling, a period of 20 ms at a time (document 01, "Senders, per 20 ms"; FRF.11, Annex B).
 #![tactic(auto)]
 
-ghost use Rattle.std.specs.Prelude.{◌≡◌};
+ghost use Rattle.std.specs.Prelude.{◌≡◌, Ok};
 ghost use Rattle.signalling.specs.Layout.{all_allowed};
-ghost use Rattle.seizing.specs.Sender.{started, all_equal, decision, run_after, windows_after, decision_of, going_out, nothing_due, period, sent};
+ghost use Rattle.seizing.specs.Sender.{started, all_equal, decision, run_after, windows_after, decision_of, period, sent};
 
 use counts::SignallingCount;
+use refusal::Refusal;
 use signalling::layout::Signalling;
 
 // What a period brings: the alarm bit and ten samples, oldest first.
@@ -25,24 +26,6 @@ pub struct Sender {
     windows: [u8; 30],
 }
 
-// What starting one tells: 15 for a start value that is not allowed, else 0; and the sender, which beside a refusal starts
-// from 0.
-#[derive(Clone, Copy)]
-pub struct Started {
-    pub number: u8,
-    pub sender: Sender,
-}
-
-// What a period brings about: the refusal number, 0 where it is taken; whether a payload is to go out, and that payload, all
-// 0 where none is; and the sender.
-#[derive(Clone, Copy)]
-pub struct Sent {
-    pub number: u8,
-    pub due: bool,
-    pub signalling: Signalling,
-    pub sender: Sender,
-}
-
 // What is done with a period: it is sent, the last payload is repeated, or nothing goes out.
 #[derive(Clone, Copy)]
 enum Decision {
@@ -51,58 +34,20 @@ enum Decision {
     Rests,
 }
 
-// Starts a sender at a value.
-pub fn start(value: u8) -> Started
-    ensures { result ≡ started value }
-{
-    if signalling::layout::allowed(value) {
-        return Started {
-            number: refusal::SOUND,
-            sender: Sender {
-                last: SignallingCount(127),
-                before: value,
-                quiet: 0,
-                windows: [value; 30],
-            },
-        };
-    }
-    Started {
-        number: refusal::VALUE_OUT_OF_RANGE,
-        sender: Sender {
-            last: SignallingCount(127),
-            before: 0,
-            quiet: 0,
-            windows: [0u8; 30],
-        },
-    }
-}
-
 // Whether all ten samples are allowed.
 fn ten_allowed(samples: [u8; 10]) -> bool
     ensures { result ≡ all_allowed 10 0 samples }
 {
-    let mut i: usize = 0;
-    while i < 10 {
-        if !signalling::layout::allowed(samples[i]) {
-            return false;
-        }
-        i += 1;
-    }
-    true
+    samples
+        .iter()
+        .all(|sample| signalling::layout::allowed(*sample))
 }
 
 // Whether all ten samples equal one.
 fn all_equal(sample: u8, samples: [u8; 10]) -> bool
     ensures { result ≡ all_equal sample 10 0 samples }
 {
-    let mut i: usize = 0;
-    while i < 10 {
-        if sample != samples[i] {
-            return false;
-        }
-        i += 1;
-    }
-    true
+    samples.iter().all(|other| sample == *other)
 }
 
 // What is done with a period, by whether it is quiet and the quiet periods of the run before it.
@@ -139,82 +84,63 @@ fn windows_after(windows: [u8; 30], samples: [u8; 10]) -> [u8; 30]
     ensures { result ≡ windows_after windows samples }
 {
     let mut after = [0u8; 30];
-    octets::put_both(&mut after, 0, &windows[10..], &samples);
+    after[..20].copy_from_slice(&windows[10..]);
+    after[20..].copy_from_slice(&samples);
     after
 }
 
-// What goes out of a state: its last number and windows, with the alarm of this period.
-fn go_out(sender: Sender, alarm: bool) -> Sent
-    ensures { result ≡ going_out sender alarm }
-{
-    let last = sender.last;
-    let windows = sender.windows;
-    Sent {
-        number: refusal::SOUND,
-        due: true,
-        signalling: Signalling {
-            alarm: alarm,
-            sequence: last,
-            samples: windows,
-        },
-        sender: sender,
-    }
-}
-
-// Nothing goes out.
-fn nothing_due(sender: Sender, number: u8) -> Sent
-    ensures { result ≡ nothing_due sender number }
-{
-    Sent {
-        number: number,
-        due: false,
-        signalling: Signalling {
-            alarm: false,
-            sequence: SignallingCount(0),
-            samples: [0u8; 30],
-        },
-        sender: sender,
-    }
-}
-
-// A period whose samples are allowed.
-fn take_period(sender: Sender, entry: Entry) -> Sent
-    ensures { result ≡ period sender entry (decision_of sender entry) }
-{
-    let samples = entry.samples;
-    let before = samples[9];
-    let windows = sender.windows;
-    let last = sender.last;
-    let quiet = all_equal(sender.before, samples);
-    let run = run_after(quiet, sender.quiet);
-    let same = Sender {
-        last: last,
-        before: before,
-        quiet: run,
-        windows: windows,
-    };
-    match decide(quiet, sender.quiet) {
-        Decision::Sends => {
-            let next = Sender {
-                last: last.next(),
-                before: before,
-                quiet: run,
-                windows: windows_after(windows, samples),
-            };
-            go_out(next, entry.alarm)
+impl Sender {
+    // Starts a sender at a value.
+    pub fn start(value: u8) -> Result<Sender, Refusal>
+        ensures { result ≡ started value }
+    {
+        if !signalling::layout::allowed(value) {
+            return Err(Refusal::ValueOutOfRange);
         }
-        Decision::Repeats => go_out(same, entry.alarm),
-        Decision::Rests => nothing_due(same, refusal::SOUND),
+        Ok(Sender {
+            last: SignallingCount(127),
+            before: value,
+            quiet: 0,
+            windows: [value; 30],
+        })
     }
-}
 
-// Takes a period.
-pub fn send(sender: Sender, entry: Entry) -> Sent
-    ensures { result ≡ sent sender entry }
-{
-    let samples = entry.samples;
-    if ten_allowed(samples) {
-        return take_period(sender, entry);
+    // A period whose samples are allowed: what goes out is of the last number and windows, with the alarm of this period.
+    #[tactic(auto, unfolding(crate::specs::Sender::period))]
+    fn period(&mut self, entry: Entry) -> Option<Signalling>
+        ensures answer { Ok result ≡ (period self.old entry (decision_of self.old entry)).answer }
+        ensures after { self.new ≡ (period self.old entry (decision_of self.old entry)).sender }
+    {
+        let samples = entry.samples;
+        let quiet = all_equal(self.before, samples);
+        let decision = decide(quiet, self.quiet);
+        self.before = samples[9];
+        self.quiet = run_after(quiet, self.quiet);
+        match decision {
+            Decision::Sends => {
+                self.last = self.last.next();
+                self.windows = windows_after(self.windows, samples);
+            }
+            Decision::Repeats => {}
+            Decision::Rests => return None,
+        }
+        let windows = self.windows;
+        Some(Signalling {
+            alarm: entry.alarm,
+            sequence: self.last,
+            samples: windows,
+        })
     }
-    nothing_due(sender, refusal::VALUE_OUT_OF_RANGE)
+
+    // Takes a period: whether a payload goes out, and which. A refused one leaves the sender as it was.
+    #[tactic(auto, unfolding(crate::specs::Sender::sent))]
+    pub fn send(&mut self, entry: Entry) -> Result<Option<Signalling>, Refusal>
+        ensures answer { result ≡ (sent self.old entry).answer }
+        ensures after { self.new ≡ (sent self.old entry).sender }
+    {
+        if !ten_allowed(entry.samples) {
+            return Err(Refusal::ValueOutOfRange);
+        }
+        Ok(self.period(entry))
+    }
 }

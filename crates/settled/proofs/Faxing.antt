@@ -1,13 +1,13 @@
 -- One answer only: the public functions of `faxing`.
 use mathlib.Core.Path.{refl, sym, ◌∙◌}
 use Rattle.settled.specs.Settled.{OneAnswer, nothing}
-use Rattle.faxing.proofs.fresh.Kinds as fresh-kinds
-use Rattle.faxing.proofs.fresh.Reads as fresh-reads
-use Rattle.faxing.proofs.receive.Kinds as receive-kinds
-use Rattle.faxing.proofs.receive.Reads as receive-reads
+use Rattle.faxing.proofs.Receiver.fresh.Kinds as receiver-fresh-kinds
+use Rattle.faxing.proofs.Receiver.fresh.Reads as receiver-fresh-reads
+use Rattle.faxing.proofs.Receiver.receive.Kinds as receiver-receive-kinds
+use Rattle.faxing.proofs.Receiver.receive.Reads as receiver-receive-reads
 
-pub fresh : OneAnswer 0 fresh-kinds.ps fresh-kinds.r nothing fresh-reads.Post
-fresh κs a x y s t p q = (p ∙ sym q, refl)
+pub receiver-fresh : OneAnswer 0 receiver-fresh-kinds.ps receiver-fresh-kinds.r nothing receiver-fresh-reads.Post
+receiver-fresh κs a x y s t p q = (p ∙ sym q, refl)
 
-pub receive : OneAnswer 1 receive-kinds.ps receive-kinds.r nothing receive-reads.Post
-receive κs a x y s t p q = (p ∙ sym q, refl)
+pub receiver-receive : OneAnswer 2 receiver-receive-kinds.ps receiver-receive-kinds.r (λ κs s. s.0.now) receiver-receive-reads.Post
+receiver-receive κs a x y s t p q = (p.0 ∙ sym q.0, p.1 ∙ sym q.1)

@@ -1,7 +1,6 @@
 -- One answer only: the public functions of `frame`.
-use mathlib.Core.Path.{◌≡◌, refl, sym, ◌∙◌}
+use mathlib.Core.Path.{refl, sym, ◌∙◌}
 use Rattle.settled.specs.Settled.{OneAnswer, nothing}
-use Rattle.frame.specs.declared.Checked.{Checked}
 use Rattle.frame.proofs.field_fits.Kinds as field-fits-kinds
 use Rattle.frame.proofs.field_fits.Reads as field-fits-reads
 use Rattle.frame.proofs.scan_from.Kinds as scan-from-kinds
@@ -11,12 +10,6 @@ use Rattle.frame.proofs.check.Reads as check-reads
 use Rattle.frame.proofs.open.Kinds as open-kinds
 use Rattle.frame.proofs.open.Reads as open-reads
 
--- three numbers make a whole answer of `check`
-same : (x y : Checked) → x.number ≡ y.number → x.at ≡ y.at → x.count ≡ y.count → x ≡ y
-same x y number at count =
-    let e : ◌≡◌ {A = Checked} (record { number = x.number; at = x.at; count = x.count }) (record { number = y.number; at = y.at; count = y.count }) = cc in
-    e
-
 pub field_fits : OneAnswer 1 field-fits-kinds.ps field-fits-kinds.r nothing field-fits-reads.Post
 field_fits κs a x y s t p q = (p ∙ sym q, refl)
 
@@ -24,7 +17,7 @@ pub scan-from : OneAnswer 1 scan-from-kinds.ps scan-from-kinds.r nothing scan-fr
 scan-from κs a x y s t p q = (p ∙ sym q, refl)
 
 pub check : OneAnswer 1 check-kinds.ps check-kinds.r nothing check-reads.Post
-check κs a x y s t p q = (same x y (p.0 ∙ sym q.0) (p.1.0 ∙ sym q.1.0) (p.1.1 ∙ sym q.1.1), refl)
+check κs a x y s t p q = (p ∙ sym q, refl)
 
 pub opened : OneAnswer 1 open-kinds.ps open-kinds.r nothing open-reads.Post
 opened κs a x y s t p q = (p ∙ sym q, refl)

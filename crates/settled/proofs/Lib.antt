@@ -1,3 +1,4 @@
+pub mod Refusal
 pub mod Octets
 pub mod Counts
 pub mod Header

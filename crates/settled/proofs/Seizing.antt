@@ -1,13 +1,13 @@
 -- One answer only: the public functions of `seizing`.
 use mathlib.Core.Path.{refl, sym, ◌∙◌}
 use Rattle.settled.specs.Settled.{OneAnswer, nothing}
-use Rattle.seizing.proofs.start.Kinds as start-kinds
-use Rattle.seizing.proofs.start.Reads as start-reads
-use Rattle.seizing.proofs.send.Kinds as send-kinds
-use Rattle.seizing.proofs.send.Reads as send-reads
+use Rattle.seizing.proofs.Sender.start.Kinds as sender-start-kinds
+use Rattle.seizing.proofs.Sender.start.Reads as sender-start-reads
+use Rattle.seizing.proofs.Sender.send.Kinds as sender-send-kinds
+use Rattle.seizing.proofs.Sender.send.Reads as sender-send-reads
 
-pub start : OneAnswer 0 start-kinds.ps start-kinds.r nothing start-reads.Post
-start κs a x y s t p q = (p ∙ sym q, refl)
+pub sender-start : OneAnswer 0 sender-start-kinds.ps sender-start-kinds.r nothing sender-start-reads.Post
+sender-start κs a x y s t p q = (p ∙ sym q, refl)
 
-pub send : OneAnswer 0 send-kinds.ps send-kinds.r nothing send-reads.Post
-send κs a x y s t p q = (p ∙ sym q, refl)
+pub sender-send : OneAnswer 1 sender-send-kinds.ps sender-send-kinds.r (λ κs s. s.0.now) sender-send-reads.Post
+sender-send κs a x y s t p q = (p.0 ∙ sym q.0, p.1 ∙ sym q.1)

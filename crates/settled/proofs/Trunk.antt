@@ -1,13 +1,13 @@
 -- One answer only: the public functions of `trunk`.
 use mathlib.Core.Path.{refl, sym, ◌∙◌}
 use Rattle.settled.specs.Settled.{OneAnswer, nothing}
-use Rattle.trunk.proofs.fresh.Kinds as fresh-kinds
-use Rattle.trunk.proofs.fresh.Reads as fresh-reads
-use Rattle.trunk.proofs.take.Kinds as take-kinds
-use Rattle.trunk.proofs.take.Reads as take-reads
+use Rattle.trunk.proofs.Trunk.fresh.Kinds as trunk-fresh-kinds
+use Rattle.trunk.proofs.Trunk.fresh.Reads as trunk-fresh-reads
+use Rattle.trunk.proofs.Trunk.take.Kinds as trunk-take-kinds
+use Rattle.trunk.proofs.Trunk.take.Reads as trunk-take-reads
 
-pub fresh : OneAnswer 0 fresh-kinds.ps fresh-kinds.r nothing fresh-reads.Post
-fresh κs a x y s t p q = (p ∙ sym q, refl)
+pub trunk-fresh : OneAnswer 0 trunk-fresh-kinds.ps trunk-fresh-kinds.r nothing trunk-fresh-reads.Post
+trunk-fresh κs a x y s t p q = (p ∙ sym q, refl)
 
-pub take : OneAnswer 1 take-kinds.ps take-kinds.r nothing take-reads.Post
-take κs a x y s t p q = (p ∙ sym q, refl)
+pub trunk-take : OneAnswer 2 trunk-take-kinds.ps trunk-take-kinds.r (λ κs s. s.0.now) trunk-take-reads.Post
+trunk-take κs a x y s t p q = (p.0 ∙ sym q.0, p.1 ∙ sym q.1)

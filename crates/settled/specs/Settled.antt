@@ -1,5 +1,5 @@
 -- "For each public function one answer only, and one content of every lent buffer and returned state, meets its contract, for all
--- inputs, refused ones too" (document 01, "What the contracts settle"). A returned state is a part of the result. The theorems
+-- inputs, refused ones too" (document 01, "What the contracts settle"). A returned state is a part of the result, or what `self` holds at exit. The theorems
 -- stand in proofs/, a file a crate; each speaks of the function's contract itself (`Post`, which the kit makes of it).
 use Rattle.std.specs.Prelude.{◌≡◌, ℕ, List}
 use contract.Lifetimes.{Lfts}

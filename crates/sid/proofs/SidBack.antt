@@ -12,19 +12,18 @@ use lib.IntN.{neg_ℤ, pos}
 use Rattle.octets.proofs.Order.{eq-or-ne}
 use Rattle.octets.specs.Octets.{Octets}
 use Rattle.octets.specs.Made.{made}
-use Rattle.levels.specs.declared.Coded.TheVariants.{Code}
 use Rattle.levels.specs.Level.{level_of, code_of}
 use Rattle.levels.proofs.Laws.{code-of-level, level-of-code}
 use Rattle.record.specs.declared.syntax.Syntax.{Syntax}
 use Rattle.record.specs.declared.syntax.Syntax.TheVariants.{Acelp, Pcm, G727, G728, G7231, Data, Fax}
 use Rattle.sid.specs.declared.Sid.{Sid}
 use Rattle.sid.specs.declared.Sid.TheVariants.{Noise, Plain}
-use Rattle.sid.specs.declared.SidRead.TheVariants.{Silence, BadSid}
 use Rattle.voice.specs.Voice.{voiceless}
 use Rattle.sid.specs.Sid.{sid_octets, sid_in, read_refusals, sid_read, magnitude_in, write_refusals, octets_for, sid_made}
 use Rattle.sid.specs.Claims.{SidReadsBack, SidMadeAgain, SidReadAlike, unreserved}
 use Rattle.refusal.proofs.Order.{Passes, passed}
 use Rattle.sid.proofs.SidCases as cases
+use Rattle.std.specs.declared.result.Result.TheVariants.{Ok, Err}
 
 two-or-none : (syntax : Syntax) → (sid_octets syntax ≡ 0 → ⊥) → sid_octets syntax ≡ 2
 two-or-none Acelp h = absurd (h refl)
@@ -35,7 +34,7 @@ two-or-none G7231 h = absurd (h refl)
 two-or-none Data h = absurd (h refl)
 two-or-none Fax h = absurd (h refl)
 
-back : (syntax : Syntax) (sid : Sid) → Passes (write_refusals syntax sid) → sid_read syntax (octets_for sid) ≡ Silence sid
+back : (syntax : Syntax) (sid : Sid) → Passes (write_refusals syntax sid) → sid_read syntax (octets_for sid) ≡ Ok sid
 back syntax Plain tests =
     let none : sid_octets syntax ≡ 0 = eqb-true (sid_octets syntax) 0 (not-false _ tests.1.0) in
     cases.reads syntax [] (tests.0, (rw none, tt)) ∙ rw none
@@ -51,11 +50,8 @@ sid-reads-back syntax sid octets e =
     let all = cases.made-passed syntax sid octets e in
     ap (sid_read syntax) (sym all.1) ∙ back syntax sid all.0
 
-never : {A : Type 0} (number : ℕ) (sid : Sid) → BadSid number ≡ Silence sid → A
-never number sid e = let z : ◌≡◌ {A = ℕ} 0 1 = cc in absurd (omega arith)
-
 -- the code of a level that was read is its magnitude
-read-code : (octet : ℕ) → code_of 63 (level_of octet) ≡ Code (octet % 64)
+read-code : (octet : ℕ) → code_of 63 (level_of octet) ≡ Ok (octet % 64)
 read-code octet =
     ap (λ (k : ℕ). code_of 63 (neg_ℤ (pos k))) (sym (mod-mod octet 64)) ∙ code-of-level 63 (octet % 64) (omega arith) (omega arith)
 
@@ -94,7 +90,7 @@ again syntax octets small tests =
 pub sid-made-again : SidMadeAgain
 unfolding sid_read
 sid-made-again syntax sid octets small e =
-    let all = passed BadSid _ (read_refusals syntax octets) (Silence sid) (λ n m. never n sid m) e in
+    let all = passed Err _ (read_refusals syntax octets) (Ok sid) (λ refusal m. cc) e in
     let is = all.1 in
     let same : sid_in syntax octets ≡ sid = cc in
     rw (← same) (again syntax octets small all.0)

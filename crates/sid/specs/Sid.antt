@@ -1,19 +1,17 @@
 -- Silence descriptors (document 01, "Payload types": SID). "Under pcm and g727, two octets: sequence in bits 8 to 5, six
 -- reserved bits (written 0, ignored on reading), six bits of noise level". "Under acelp, g728, g7231: empty".
-use Rattle.std.specs.Prelude.{ℕ, ◌*◌, ◌/◌, List, [], ◌∷◌, Bool, true, false, cond, not, ltb, eqb, length, get_or}
-use Rattle.refusal.specs.Numbers.{type_not_allowed, length_wrong, value_out_of_range}
+use Rattle.std.specs.Prelude.{ℕ, ◌*◌, ◌/◌, List, [], ◌∷◌, Bool, true, false, cond, not, ltb, eqb, length, get_or, Result, Ok, Err}
+use Rattle.refusal.specs.declared.Refusal.{Refusal}
+use Rattle.refusal.specs.declared.Refusal.TheVariants.{TypeNotAllowed, LengthWrong, ValueOutOfRange}
 use Rattle.refusal.specs.Order.{Test, ◌gives◌, in_order}
 use Rattle.octets.specs.Made.{Made, made, unmade}
-use Rattle.levels.specs.declared.Coded.{Coded}
-use Rattle.levels.specs.declared.Coded.TheVariants.{Code, Above, Below}
+use Rattle.levels.specs.declared.Beyond.{Beyond}
 use Rattle.levels.specs.Level.{level_of, code_of}
 use Rattle.record.specs.declared.syntax.Syntax.{Syntax}
 use Rattle.record.specs.declared.syntax.Syntax.TheVariants.{Acelp, Pcm, G727, G728, G7231, Data, Fax}
 use Rattle.voice.specs.Voice.{voiceless}
 use Rattle.sid.specs.declared.Sid.{Sid}
 use Rattle.sid.specs.declared.Sid.TheVariants.{Noise, Plain}
-use Rattle.sid.specs.declared.SidRead.{SidRead}
-use Rattle.sid.specs.declared.SidRead.TheVariants.{Silence, BadSid}
 
 abbrev pub sid_octets : Syntax → ℕ
 sid_octets Acelp = 0
@@ -32,36 +30,34 @@ sid_in syntax payload =
 -- The refusals of a payload, in document 01's order.
 abbrev pub read_refusals : Syntax → List ℕ → List Test
 read_refusals syntax payload =
-    voiceless syntax gives type_not_allowed
-    ∷ not (eqb (length payload) (sid_octets syntax)) gives length_wrong
+    voiceless syntax gives TypeNotAllowed
+    ∷ not (eqb (length payload) (sid_octets syntax)) gives LengthWrong
     ∷ []
 
 -- What a payload tells.
-unfoldable pub sid_read : Syntax → List ℕ → SidRead
-sid_read syntax payload = in_order (read_refusals syntax payload) BadSid (Silence (sid_in syntax payload))
+unfoldable pub sid_read : Syntax → List ℕ → Result Sid Refusal
+sid_read syntax payload = in_order (read_refusals syntax payload) Err (Ok (sid_in syntax payload))
 
 -- a noise level above 0 or below -63, and the magnitude of any other
-abbrev pub out_of_range : Coded → Bool
-out_of_range (Code magnitude) = false
-out_of_range Above = true
-out_of_range Below = true
+abbrev pub out_of_range : Result ℕ Beyond → Bool
+out_of_range (Ok magnitude) = false
+out_of_range (Err beyond) = true
 
-abbrev pub magnitude_in : Coded → ℕ
-magnitude_in (Code magnitude) = magnitude
-magnitude_in Above = 0
-magnitude_in Below = 0
+abbrev pub magnitude_in : Result ℕ Beyond → ℕ
+magnitude_in (Ok magnitude) = magnitude
+magnitude_in (Err beyond) = 0
 
 -- The refusals of a descriptor, for writing: 13 without noise where two octets are due, 15 for a value that would not be written.
 abbrev pub value_refusals : Syntax → Sid → List Test
-value_refusals syntax Plain = not (eqb (sid_octets syntax) 0) gives length_wrong ∷ []
+value_refusals syntax Plain = not (eqb (sid_octets syntax) 0) gives LengthWrong ∷ []
 value_refusals syntax (Noise sequence level) =
-    eqb (sid_octets syntax) 0 gives value_out_of_range
-    ∷ ltb 15 sequence.0 gives value_out_of_range
-    ∷ out_of_range (code_of 63 level) gives value_out_of_range
+    eqb (sid_octets syntax) 0 gives ValueOutOfRange
+    ∷ ltb 15 sequence.0 gives ValueOutOfRange
+    ∷ out_of_range (code_of 63 level) gives ValueOutOfRange
     ∷ []
 
 abbrev pub write_refusals : Syntax → Sid → List Test
-write_refusals syntax sid = voiceless syntax gives type_not_allowed ∷ value_refusals syntax sid
+write_refusals syntax sid = voiceless syntax gives TypeNotAllowed ∷ value_refusals syntax sid
 
 -- The octets of a descriptor.
 abbrev pub octets_for : Sid → List ℕ

@@ -7,22 +7,14 @@ ghost use Rattle.octets.specs.Made.{fit_of, put_made, left_made};
 ghost use Rattle.sid.specs.Sid.{sid_octets, sid_read, out_of_range, magnitude_in, sid_made};
 
 use counts::VoiceCount;
-use levels::Coded;
-use octets::{Fit, Put};
 use record::syntax::Syntax;
+use refusal::Refusal;
 
 // What a silence descriptor carries: the noise level, 0 to -63 dBm0, or nothing.
-#[derive(Clone, Copy)]
+#[derive(Clone, Copy, Debug, PartialEq, Eq)]
 pub enum Sid {
     Noise { sequence: VoiceCount, level: i8 },
     Plain,
-}
-
-#[derive(Clone, Copy)]
-pub enum SidRead {
-    Silence(Sid),
-    // The refusal number.
-    BadSid(u8),
 }
 
 // The octets of a descriptor.
@@ -41,20 +33,21 @@ fn sid_octets(syntax: Syntax) -> usize
 }
 
 // Reads a silence descriptor.
-pub fn read_sid(syntax: Syntax, payload: &[u8]) -> SidRead
+#[tactic(auto, unfolding(crate::specs::Sid::sid_read))]
+pub fn read_sid(syntax: Syntax, payload: &[u8]) -> Result<Sid, Refusal>
     ensures { result ≡ sid_read syntax payload.now }
 {
     if voice::coding_count(syntax) == 0 {
-        return SidRead::BadSid(refusal::TYPE_NOT_ALLOWED);
+        return Err(Refusal::TypeNotAllowed);
     }
     let due = sid_octets(syntax);
     if payload.len() != due {
-        return SidRead::BadSid(refusal::LENGTH_WRONG);
+        return Err(Refusal::LengthWrong);
     }
     if due == 0 {
-        return SidRead::Silence(Sid::Plain);
+        return Ok(Sid::Plain);
     }
-    SidRead::Silence(Sid::Noise {
+    Ok(Sid::Noise {
         sequence: VoiceCount(octets::octet(payload, 0) / 16),
         level: levels::level_of(octets::octet(payload, 1)),
     })
@@ -64,67 +57,53 @@ pub fn read_sid(syntax: Syntax, payload: &[u8]) -> SidRead
 fn out_of_range(level: i8) -> bool
     ensures { result ≡ out_of_range (code_of 63 level) }
 {
-    match levels::code_of(level, 63) {
-        Coded::Code(_) => false,
-        Coded::Above => true,
-        Coded::Below => true,
-    }
+    levels::code_of(level, 63).is_err()
 }
 
 // The magnitude of a noise level that is in range.
 fn magnitude(level: i8) -> u8
     ensures { result ≡ magnitude_in (code_of 63 level) }
 {
-    match levels::code_of(level, 63) {
-        Coded::Code(magnitude) => magnitude,
-        Coded::Above => 0,
-        Coded::Below => 0,
-    }
+    levels::code_of(level, 63).unwrap_or(0)
 }
 
 // The octets of a silence descriptor, or the refusal.
-pub fn fit_sid(syntax: Syntax, sid: Sid) -> Fit
+#[tactic(auto, unfolding(crate::specs::Sid::sid_made))]
+pub fn fit_sid(syntax: Syntax, sid: Sid) -> Result<usize, Refusal>
     ensures { result ≡ fit_of (sid_made syntax sid) }
 {
     if voice::coding_count(syntax) == 0 {
-        return Fit::Unfit(refusal::TYPE_NOT_ALLOWED);
+        return Err(Refusal::TypeNotAllowed);
     }
     let due = sid_octets(syntax);
     match sid {
         Sid::Noise { sequence, level } => {
-            if due == 0 {
-                return Fit::Unfit(refusal::VALUE_OUT_OF_RANGE);
+            if due == 0 || 15 < sequence.0 || out_of_range(level) {
+                return Err(Refusal::ValueOutOfRange);
             }
-            if 15 < sequence.0 {
-                return Fit::Unfit(refusal::VALUE_OUT_OF_RANGE);
-            }
-            if out_of_range(level) {
-                return Fit::Unfit(refusal::VALUE_OUT_OF_RANGE);
-            }
-            Fit::Octets(2)
+            Ok(2)
         }
         Sid::Plain => {
             if due != 0 {
-                return Fit::Unfit(refusal::LENGTH_WRONG);
+                return Err(Refusal::LengthWrong);
             }
-            Fit::Octets(0)
+            Ok(0)
         }
     }
 }
 
 // Writes a silence descriptor at a place of lent room.
-pub fn put_sid(room: &mut [u8], at: usize, syntax: Syntax, sid: Sid) -> Put
+#[tactic(auto, using(crate::proofs::SidCases::plain_made, crate::proofs::SidCases::noise_put, crate::proofs::SidCases::noise_left, crate::proofs::SidCases::noise_four_bits))]
+pub fn put_sid(room: &mut [u8], at: usize, syntax: Syntax, sid: Sid) -> Result<usize, Refusal>
     ensures answer { result ≡ put_made room.old at (sid_made syntax sid) }
     ensures holds { room.new ≡ left_made room.old at (sid_made syntax sid) }
 {
-    match fit_sid(syntax, sid) {
-        Fit::Unfit(number) => Put::NotWritten(number),
-        Fit::Octets(_) => match sid {
-            Sid::Noise { sequence, level } => {
-                let pair = [sequence.0 * 16, magnitude(level)];
-                octets::put_octets(room, at, &pair)
-            }
-            Sid::Plain => octets::put_octets(room, at, b""),
-        },
+    fit_sid(syntax, sid)?;
+    match sid {
+        Sid::Noise { sequence, level } => {
+            let pair = [sequence.0 * 16, magnitude(level)];
+            octets::put_octets(room, at, &pair)
+        }
+        Sid::Plain => octets::put_octets(room, at, b""),
     }
 }

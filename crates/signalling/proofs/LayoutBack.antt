@@ -10,16 +10,16 @@ use borrow.Author.Tests.{lt-ltb, ltb-true, ltb-false, eq-eqb, ne_eqb, not-false}
 use lib.Dec.{ltb, eqb}
 use lib.ListN.{length, get_or, set, take, drop, replicate}
 use lib.Seq.{paste, drop-cons, ext_get_or, take_all}
+use Rattle.std.specs.declared.result.Result.{Result}
+use Rattle.std.specs.declared.result.Result.TheVariants.{Ok, Err}
+use Rattle.refusal.specs.declared.Refusal.{Refusal}
 use Rattle.octets.proofs.Writes as writes
 use Rattle.octets.proofs.Order.{eq-or-ne, past}
 use Rattle.octets.proofs.MadeBack.{octets-made, same-made, never-made}
 use Rattle.octets.specs.Octets.{Octets}
 use Rattle.octets.specs.Made.{made, fit_of}
-use Rattle.octets.specs.declared.Fit.TheVariants as fit
-use Rattle.refusal.specs.Numbers.{sound, length_wrong}
 use Rattle.signalling.specs.declared.layout.Signalling.{Signalling}
-use Rattle.signalling.specs.declared.layout.SignallingRead.{SignallingRead}
-use Rattle.signalling.specs.Layout.{halves, signalling_in, nothing, all_allowed, pair_at, pairs, first_octet, signalling_made}
+use Rattle.signalling.specs.Layout.{halves, signalling_in, all_allowed, pair_at, pairs, first_octet, signalling_made}
 use Rattle.signalling.specs.Claims.{SignallingReadsBack, SignallingMadeAgain}
 use Rattle.signalling.proofs.LayoutCases as cases
 use Rattle.signalling.proofs.Halves as halves_of
@@ -36,7 +36,7 @@ fitting s octets e =
     let samples = past (not (all_allowed 30 0 s.samples)) _ _ _ (never-made _ _ octets refl) sequence.1 in
     record { within = ltb-false 127 s.sequence.0 sequence.0; fair = not-false _ samples.0 }
 
-pub fits : (s : Signalling) (n : ℕ) → fit_of (signalling_made s) ≡ fit.Octets n → Fitting s
+pub fits : (s : Signalling) (n : ℕ) → fit_of (signalling_made s) ≡ Ok n → Fitting s
 fits s n e = let m = octets-made (signalling_made s) n e in fitting s m.0 m.1
 
 pub made-octets : (s : Signalling) → Fitting s → signalling_made s ≡ made (first_octet s ∷ pairs 15 0 s.samples)
@@ -130,8 +130,11 @@ halves_pairs l whole =
     ∙ ap₂ (λ (x y : ℕ). x + y * 16) (halves_of.low_half l i less) (halves_of.high_half l i less)
     ∙ omega arith)
 
-never : {A : Type 0} (r : SignallingRead) (x y : Signalling) → r ≡ record { number = length_wrong; signalling = x } → r ≡ record { number = sound; signalling = y } → A
-never r x y p q = let z : ◌≡◌ {A = ℕ} 13 0 = ap (λ (s : SignallingRead). s.number) (sym p ∙ q) in absurd (omega arith)
+never : {A : Type 0} (r : Result Signalling Refusal) (x : Refusal) (y : Signalling) → r ≡ Err x → r ≡ Ok y → A
+never r x y p q = cc
+
+same-read : (r : Result Signalling Refusal) (x y : Signalling) → r ≡ Ok x → r ≡ Ok y → x ≡ y
+same-read r x y p q = cc
 
 -- the first octet again
 first-again : (x : ℕ) → x < 256 → cond (eqb (x / 128) 1) (128 + x % 128) (x % 128) ≡ x
@@ -157,7 +160,7 @@ pub signalling-made-again : SignallingMadeAgain
 signalling-made-again s octets o e =
     ⊎_elim
     (λ whole.
-    let is = ap (λ (r : SignallingRead). r.signalling) (sym (cases.right octets whole) ∙ e) in
+    let is = same-read _ _ s (cases.right octets whole) e in
     subst (λ (x : Signalling). (length x.samples ≡ 30) × (signalling_made x ≡ made octets)) is (again octets o whole))
-    (λ wrong. never _ nothing s (cases.wrong octets wrong) e)
+    (λ wrong. never _ _ s (cases.wrong octets wrong) e)
     (eq-or-ne (length octets) 16)

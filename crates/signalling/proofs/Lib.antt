@@ -2,4 +2,3 @@ pub mod Halves
 pub mod Samples
 pub mod LayoutCases
 pub mod LayoutBack
-pub mod Windows

@@ -1,11 +1,14 @@
 -- Samples looked at one by one.
-use Prim.Native.Nat.{ℕ, zero, suc, ◌+◌, ◌-◌, ◌<◌, ◌≤◌}
+use Prim.Native.Nat.{ℕ, zero, suc, ◌+◌, ◌<◌}
 use mathlib.Core.Path.{◌≡◌, refl, sym, ◌∙◌}
 use mathlib.Core.List.{List}
 use mathlib.Core.Bool.{Bool, true, false, cond}
 use native.Mathlib.Nat.{not-suc-le-zero, le_of_suc-le-suc, add-zero}
 use native.Mathlib.Omega.{arith}
-use lib.ListN.{get_or}
+use lib.ListN.{length, get_or, drop, drop_of_length-le}
+use lib.Seq.{drop-cons}
+use Rattle.std.specs.Prelude.{◌&&◌}
+use Rattle.std.specs.List.{list_all}
 use Rattle.octets.proofs.Order.{clash, either}
 use Rattle.signalling.specs.Layout.{allowed, all_allowed}
 
@@ -18,22 +21,22 @@ pub allowed-looks : (samples : List ℕ) → Looks (λ (i : ℕ). allowed (get_o
 unfolding all_allowed
 allowed-looks samples = record { none = λ i. refl; more = λ n i. refl }
 
-module _ {test : ℕ → Bool} {look : ℕ → ℕ → Bool} (looks : Looks test look) (whole : Bool) (n i : ℕ) (is : whole ≡ look (n - i) i) where
-  module _ (left : i < n) where
-    next : whole ≡ cond (test i) (look (n - (i + 1)) (i + 1)) false
-    next =
-        let one_less : n - i ≡ suc (n - (i + 1)) = omega arith in
-        let one_more : i + 1 ≡ suc i = omega arith in
-        is ∙ rw (one_less, one_more) (looks.more (n - suc i) i)
-
-    pub goes_on : test i ≡ true → whole ≡ look (n - (i + 1)) (i + 1)
-    goes_on h = next ∙ rw h
-
-    pub stops : test i ≡ false → false ≡ whole
-    stops h = sym (next ∙ rw h)
-
-  pub all_seen : n ≤ i → true ≡ whole
-  all_seen most = let none : n - i ≡ 0 = omega arith in sym (is ∙ rw none (looks.none i))
+-- the answer of the library's `all` is that of looking one by one
+pub listed :
+    (test : ℕ → Bool) (samples : List ℕ) (look : ℕ → ℕ → Bool)
+    → Looks (λ (i : ℕ). test (get_or samples i 0)) look
+    → (n i : ℕ)
+    → i + n ≡ length samples
+    → list_all test (drop i samples) ≡ look n i
+listed test samples look looks zero i whole = rw (drop_of_length-le samples {i = i} (omega arith)) (sym (looks.none i))
+listed test samples look looks (suc n) i whole =
+    let rest : list_all test (drop (suc i) samples) ≡ look n (suc i) = listed test samples look looks n (suc i) (omega arith) in
+    let less : i < length samples = omega arith in
+    rw (drop-cons samples i 0 less) (step (test (get_or samples i 0)) rest ∙ sym (looks.more n i))
+  where
+    step : (t : Bool) {a b : Bool} → a ≡ b → (t && a) ≡ cond t b false
+    step true e = e
+    step false e = refl
 
 -- all pass exactly when each does
 module _ {test : ℕ → Bool} {look : ℕ → ℕ → Bool} (looks : Looks test look) where

@@ -1,6 +1,5 @@
 -- What is claimed of signalling payloads, written and read (demand 2). Proved in proofs/LayoutBack.antt.
-use Rattle.std.specs.Prelude.{ℕ, ◌≡◌, List, length}
-use Rattle.refusal.specs.Numbers.{sound}
+use Rattle.std.specs.Prelude.{ℕ, ◌≡◌, List, length, Ok}
 use Rattle.octets.specs.Octets.{Octets}
 use Rattle.octets.specs.Made.{made}
 use Rattle.signalling.specs.declared.layout.Signalling.{Signalling}
@@ -12,12 +11,12 @@ SignallingReadsBack =
     (s : Signalling) (octets : List ℕ)
     → length s.samples ≡ 30
     → signalling_made s ≡ made octets
-    → signalling_read octets ≡ record { number = sound; signalling = s }
+    → signalling_read octets ≡ Ok s
 
 -- What is read is made again, to the octet.
 abbrev pub SignallingMadeAgain : Type 0
 SignallingMadeAgain =
     (s : Signalling) (octets : List ℕ)
     → Octets octets
-    → signalling_read octets ≡ record { number = sound; signalling = s }
+    → signalling_read octets ≡ Ok s
     → (length s.samples ≡ 30) × (signalling_made s ≡ made octets)

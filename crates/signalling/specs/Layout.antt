@@ -1,11 +1,11 @@
 -- Signalling payloads (document 01, "Payload types": signalling; FRF.11, Figure B-1). Sixteen octets: "AIS bit and 7-bit
 -- sequence, then 30 samples, oldest first, two to an octet, the earlier in the low half, bits D C B A from high to low."
-use Rattle.std.specs.Prelude.{ℕ, zero, suc, ◌+◌, ◌*◌, ◌/◌, ◌%◌, List, [], ◌∷◌, Bool, true, false, not, cond, ltb, eqb, length, get_or, drop, replicate}
-use Rattle.refusal.specs.Numbers.{sound, length_wrong, value_out_of_range}
+use Rattle.std.specs.Prelude.{ℕ, zero, suc, ◌+◌, ◌*◌, ◌/◌, ◌%◌, List, [], ◌∷◌, Bool, true, false, not, cond, ltb, eqb, length, get_or, drop, Result, Ok, Err}
 use Rattle.refusal.specs.Order.{◌gives◌, in_order}
+use Rattle.refusal.specs.declared.Refusal.{Refusal}
+use Rattle.refusal.specs.declared.Refusal.TheVariants.{LengthWrong, ValueOutOfRange}
 use Rattle.octets.specs.Made.{Made, made, unmade}
 use Rattle.signalling.specs.declared.layout.Signalling.{Signalling}
-use Rattle.signalling.specs.declared.layout.SignallingRead.{SignallingRead}
 
 -- A sample is allowed: four bits.
 abbrev pub allowed : ℕ → Bool
@@ -28,14 +28,8 @@ halves (o ∷ os) = (o % 16) ∷ (o / 16) ∷ halves os
 abbrev pub signalling_in : List ℕ → Signalling
 signalling_in p = record { alarm = alarm_in p; sequence = record { 0 = sequence_in p }; samples = halves (drop 1 p) }
 
--- what stands beside a refusal
-abbrev pub nothing : Signalling
-nothing = record { alarm = false; sequence = record { 0 = 0 }; samples = replicate 30 0 }
-
-unfoldable pub signalling_read : List ℕ → SignallingRead
-signalling_read p =
-    cond (eqb (length p) 16) (record { number = sound; signalling = signalling_in p })
-    (record { number = length_wrong; signalling = nothing })
+unfoldable pub signalling_read : List ℕ → Result Signalling Refusal
+signalling_read p = cond (eqb (length p) 16) (Ok (signalling_in p)) (Err LengthWrong)
 
 -- ---- Writing
 
@@ -58,8 +52,8 @@ pairs (suc n) i samples = pair_at samples i ∷ pairs n (suc i) samples
 unfoldable pub signalling_made : Signalling → Made
 signalling_made s =
     in_order
-    (ltb 127 s.sequence.0 gives value_out_of_range
-    ∷ not (all_allowed 30 0 s.samples) gives value_out_of_range
+    (ltb 127 s.sequence.0 gives ValueOutOfRange
+    ∷ not (all_allowed 30 0 s.samples) gives ValueOutOfRange
     ∷ [])
     unmade
     (made (first_octet s ∷ pairs 15 0 s.samples))

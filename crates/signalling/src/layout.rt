@@ -4,21 +4,14 @@ ghost use Rattle.octets.specs.Made.{fit_of, put_made, left_made};
 ghost use Rattle.signalling.specs.Layout.{halves, allowed, signalling_read, all_allowed, first_octet, pairs, signalling_made};
 
 use counts::SignallingCount;
-use octets::{Fit, Put};
+use refusal::Refusal;
 
 // A signalling payload: the alarm bit, and 30 samples of four bits, oldest first.
-#[derive(Clone, Copy)]
+#[derive(Clone, Copy, Debug, PartialEq, Eq)]
 pub struct Signalling {
     pub alarm: bool,
     pub sequence: SignallingCount,
     pub samples: [u8; 30],
-}
-
-// What reading one tells: the refusal number, 0 where it is sound, and the content, which is all 0 beside a refusal.
-#[derive(Clone, Copy)]
-pub struct SignallingRead {
-    pub number: u8,
-    pub signalling: Signalling,
 }
 
 // The thirty samples of fifteen octets that stand behind the first one.
@@ -27,39 +20,28 @@ fn samples_of(payload: &[u8]) -> [u8; 30]
     ensures { result ≡ halves (drop 1 payload.now) }
 {
     let mut samples = [0u8; 30];
-    let mut i: usize = 0;
-    while i < 15 {
+    for i in 0..15 {
         let octet = payload[i + 1];
         samples[i + i] = octet % 16;
         samples[i + i + 1] = octet / 16;
-        i += 1;
     }
     samples
 }
 
 // Reads a signalling payload.
-pub fn read_signalling(payload: &[u8]) -> SignallingRead
+#[tactic(auto, unfolding(crate::specs::Layout::signalling_read))]
+pub fn read_signalling(payload: &[u8]) -> Result<Signalling, Refusal>
     ensures { result ≡ signalling_read payload.now }
 {
-    if payload.len() == 16 {
-        let octet = payload[0];
-        return SignallingRead {
-            number: refusal::SOUND,
-            signalling: Signalling {
-                alarm: octet / 128 == 1,
-                sequence: SignallingCount(octet % 128),
-                samples: samples_of(payload),
-            },
-        };
+    if payload.len() != 16 {
+        return Err(Refusal::LengthWrong);
     }
-    SignallingRead {
-        number: refusal::LENGTH_WRONG,
-        signalling: Signalling {
-            alarm: false,
-            sequence: SignallingCount(0),
-            samples: [0u8; 30],
-        },
-    }
+    let octet = payload[0];
+    Ok(Signalling {
+        alarm: octet / 128 == 1,
+        sequence: SignallingCount(octet % 128),
+        samples: samples_of(payload),
+    })
 }
 
 // Whether a sample is allowed.
@@ -73,29 +55,21 @@ pub fn allowed(sample: u8) -> bool
 fn all_allowed(samples: [u8; 30]) -> bool
     ensures { result ≡ all_allowed 30 0 samples }
 {
-    let mut i: usize = 0;
-    while i < 30 {
-        let sample = samples[i];
-        if !allowed(sample) {
-            return false;
-        }
-        i += 1;
-    }
-    true
+    samples.iter().all(|sample| allowed(*sample))
 }
 
 // The octets of a signalling payload, or the refusal.
-pub fn fit_signalling(signalling: Signalling) -> Fit
+#[tactic(auto, unfolding(crate::specs::Layout::signalling_made), using(crate::proofs::LayoutBack::length_pairs))]
+pub fn fit_signalling(signalling: Signalling) -> Result<usize, Refusal>
     ensures { result ≡ fit_of (signalling_made signalling) }
 {
     if 127 < signalling.sequence.0 {
-        return Fit::Unfit(refusal::VALUE_OUT_OF_RANGE);
+        return Err(Refusal::ValueOutOfRange);
     }
-    let samples = signalling.samples;
-    if !all_allowed(samples) {
-        return Fit::Unfit(refusal::VALUE_OUT_OF_RANGE);
+    if !all_allowed(signalling.samples) {
+        return Err(Refusal::ValueOutOfRange);
     }
-    Fit::Octets(16)
+    Ok(16)
 }
 
 // The first octet; of the sequence there are seven bits.
@@ -117,28 +91,21 @@ fn pairs_of(samples: [u8; 30]) -> [u8; 15]
     ensures { result ≡ pairs 15 0 samples }
 {
     let mut octets = [0u8; 15];
-    let mut i: usize = 0;
-    while i < 15 {
+    for i in 0..15 {
         let low = samples[i + i];
         let high = samples[i + i + 1];
         octets[i] = low + high * 16;
-        i += 1;
     }
     octets
 }
 
 // Writes a signalling payload at a place of lent room.
-pub fn put_signalling(room: &mut [u8], at: usize, signalling: Signalling) -> Put
+pub fn put_signalling(room: &mut [u8], at: usize, signalling: Signalling) -> Result<usize, Refusal>
     ensures answer { result ≡ put_made room.old at (signalling_made signalling) }
     ensures holds { room.new ≡ left_made room.old at (signalling_made signalling) }
 {
-    match fit_signalling(signalling) {
-        Fit::Unfit(number) => Put::NotWritten(number),
-        Fit::Octets(_) => {
-            let first = [first_octet(signalling)];
-            let samples = signalling.samples;
-            let pairs = pairs_of(samples);
-            octets::put_both(room, at, &first, &pairs)
-        }
-    }
+    fit_signalling(signalling)?;
+    let first = [first_octet(signalling)];
+    let pairs = pairs_of(signalling.samples);
+    octets::put_both(room, at, &first, &pairs)
 }

@@ -2,9 +2,9 @@
 ghost use Rattle.std.specs.Prelude.{◌≡◌, ◌≤◌, true, length, take};
 ghost use Rattle.recording.specs.Pieces.{text_end};
 ghost use Rattle.provisioning.specs.Text.{reading, answer, table_after};
-ghost use Rattle.streaming.specs.Pieces.{Within, left, is_taken};
+ghost use Rattle.streaming.specs.Pieces.{Within, left};
 
-use provisioning::text::TextAnswer;
+use provisioning::text::Refused;
 use std::io::Read;
 
 // A piece of the input: the octets of its room from a place up to another.
@@ -14,10 +14,10 @@ pub struct Piece {
     pub to: usize,
 }
 
-// How a recording starts: whether its text is taken, and what was read behind it.
+// How a recording starts: what reading its text tells, and what was read behind it.
 #[derive(Clone, Copy)]
 pub struct Start {
-    pub taken: bool,
+    pub text: Result<usize, Refused>,
     pub behind: Piece,
 }
 
@@ -33,6 +33,7 @@ pub fn read_full(reader: &mut impl Read, room: &mut [u8]) -> usize
     ensures { result ≤ length room.new }
 {
     let mut done: usize = 0;
+    // Stays a `while`: each read tells how far it came.
     while done < room.len() {
         let n = read_some(reader, &mut room[done..]);
         if n == 0 {
@@ -43,34 +44,27 @@ pub fn read_full(reader: &mut impl Read, room: &mut [u8]) -> usize
     done
 }
 
-fn has_cr(text: &[u8]) -> bool {
-    let mut i: usize = 0;
-    while i < text.len() {
-        if text[i] == 13 {
-            return true;
-        }
-        i += 1;
-    }
-    false
-}
-
 // Prints the lines of a refused text, and says of one that has a CR that it has.
-fn refuse(rt: &(impl Print + Eprint), program: &[u8], number: u8, line: usize, text: &[u8]) {
+fn refuse(rt: &(impl Print + Eprint), program: &[u8], refused: Refused, text: &[u8]) {
     // Room for the names and 20 digits behind each.
     let mut room = [0u8; 52];
-    let used = printing::refused::put_refused_text(&mut room, 0, number, line);
-    if crate::output::print(rt, program, &room, used) {
-        if has_cr(text) {
-            crate::output::say(
-                rt,
-                program,
-                ": the text has CR, and a line ends with LF alone\n",
-            );
-        }
+    let used = printing::refused::put_refused_text(
+        &mut room,
+        0,
+        refused.refusal.number(),
+        refused.line,
+    );
+    if crate::output::print(rt, program, &room, used) && text.contains(&b'\r') {
+        crate::output::say(
+            rt,
+            program,
+            ": the text has CR, and a line ends with LF alone\n",
+        );
     }
 }
 
 // Reads the start of a recording, and its text into the table. A refused text is told: its lines are printed.
+#[tactic(auto, using(recording::proofs::Bounds::text_ends))]
 pub fn begin(
     rt: &(impl Print + Eprint),
     reader: &mut impl Read,
@@ -80,23 +74,19 @@ pub fn begin(
 ) -> Start
     ensures within { Within result.behind (length input.new) }
     ensures ends { result.behind.from ≡ text_end (take result.behind.to input.new) }
-    ensures says { result.taken ≡ is_taken (answer (reading (take result.behind.from input.new))) }
+    ensures says { result.text ≡ answer (reading (take result.behind.from input.new)) }
     ensures holds { table.new ≡ table_after (reading (take result.behind.from input.new)) table.old }
 {
     let to = read_full(reader, input);
     let from = recording::pieces::text_end(&input[..to]);
-    match provisioning::text::read_text(&input[..from], table) {
-        TextAnswer::Taken(_) => Start {
-            taken: true,
-            behind: Piece { from, to },
-        },
-        TextAnswer::Refused { number, line } => {
-            refuse(rt, program, number, line, &input[..from]);
-            Start {
-                taken: false,
-                behind: Piece { from, to },
-            }
-        }
+    let text = &input[..from];
+    let read = provisioning::text::read_text(text, table);
+    if let Err(refused) = read {
+        refuse(rt, program, refused, text);
+    }
+    Start {
+        text: read,
+        behind: Piece { from, to },
     }
 }
 
@@ -104,10 +94,7 @@ pub fn begin(
 fn is_left(piece: Piece, room: usize) -> bool
     ensures { result ≡ left piece room }
 {
-    if piece.from < piece.to {
-        return piece.to <= room;
-    }
-    false
+    piece.from < piece.to && piece.to <= room
 }
 
 // What is left of a piece, and the room as it was; where nothing is, the next piece, which is empty at the end of the input.

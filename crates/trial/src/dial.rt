@@ -1,112 +1,47 @@
 // The digit sender and the two digit receivers.
 use crate::line::Kind;
-use dialled::{Received, Receiver};
-use dialling::{Entry, Sender, Sending};
+use dialled::{Appended, Receiver};
+use dialling::{Entry, Sender};
 use digits::layout::Window;
-
-#[derive(Clone, Copy)]
-struct Receivers {
-    first: Receiver,
-    second: Receiver,
-}
+use refusal::Refusal;
 
 #[derive(Clone, Copy)]
 pub struct Dialling {
     sender: Sender,
-    receivers: Receivers,
-}
-
-// As document 01 has them at their start.
-pub fn start_state() -> Dialling {
-    Dialling {
-        sender: dialling::fresh(),
-        receivers: Receivers {
-            first: dialled::fresh(),
-            second: dialled::fresh(),
-        },
-    }
+    first: Receiver,
+    second: Receiver,
 }
 
 // A window as it is printed: type, edge, code.
 fn window(rt: &impl Print, name: &[u8], window: Window) {
-    let kind: u8 = if window.on { 1 } else { 0 };
-    console::print::octets(rt, name, &[kind, window.edge, window.code]);
-}
-
-// The carried periods.
-fn carried(rt: &impl Print, count: u8, periods: [Window; 3]) {
-    console::print::number(rt, b"carried=", count as u64);
-    if 0 < count {
-        window(rt, b"period=", periods[0]);
-    }
-    if 1 < count {
-        window(rt, b"period=", periods[1]);
-    }
-    if 2 < count {
-        window(rt, b"period=", periods[2]);
-    }
+    console::print::octets(rt, name, &[u8::from(window.on), window.edge, window.code]);
 }
 
 // What a receiver answers to a payload.
-fn show(rt: &impl Print, received: Received) {
-    if crate::line::accepted(rt, received.number, received.fills) {
-        let fill = received.fill;
-        window(rt, b"with=", fill);
-        let periods = received.periods;
-        carried(rt, received.carried, periods);
+fn show(rt: &impl Print, answer: Result<Appended, Refusal>) {
+    match answer {
+        Ok(appended) => {
+            console::print::number(rt, b"filled=", u64::from(appended.fills));
+            window(rt, b"with=", appended.fill);
+            console::print::number(rt, b"carried=", u64::from(appended.carried));
+            for period in appended.periods.iter().take(usize::from(appended.carried)) {
+                window(rt, b"period=", *period);
+            }
+        }
+        Err(refusal) => crate::line::refused(rt, refusal),
     }
-}
-
-// One receiver gets a payload.
-fn receive(rt: &impl Print, number: u64, receiver: Receiver, payload: &[u8]) -> Receiver {
-    console::print::number(rt, b"receiver=", number);
-    let received = dialled::receive(receiver, payload);
-    show(rt, received);
-    let after = received.receiver;
-    after
 }
 
 // What a line of a kind does to one receiver that it names: `digits=`, a payload; `voice=`; `fresh=`.
-fn get(rt: &impl Print, kind: Kind, number: u64, receiver: Receiver, payload: &[u8]) -> Receiver {
+fn get(rt: &impl Print, kind: Kind, number: u64, receiver: &mut Receiver, payload: &[u8]) {
     match kind {
-        Kind::Digits => receive(rt, number, receiver, payload),
-        Kind::Voice => dialled::hear_voice(receiver),
-        Kind::Fresh => dialled::fresh(),
-        _ => receiver,
-    }
-}
-
-// What it does to those that *who* names: 1 the first, 2 the second, 3 both.
-fn hear(rt: &impl Print, kind: Kind, who: u8, receivers: Receivers, payload: &[u8]) -> Receivers {
-    let mut first = receivers.first;
-    let mut second = receivers.second;
-    if who % 2 == 1 {
-        first = get(rt, kind, 1, first, payload);
-    }
-    if 1 < who {
-        second = get(rt, kind, 2, second, payload);
-    }
-    Receivers { first, second }
-}
-
-// Prints what becomes of an entry. What is sent comes to the receivers that *who* names.
-fn tell(rt: &impl Print, answer: Sending, who: u8, receivers: Receivers) -> Receivers {
-    match answer {
-        Sending::BadEntry(number) => {
-            console::print::number(rt, b"refused=", number as u64);
-            receivers
+        Kind::Digits => {
+            console::print::number(rt, b"receiver=", number);
+            show(rt, receiver.receive(payload));
         }
-        Sending::Unsent => {
-            console::print::name(rt, b"unsent=");
-            receivers
-        }
-        Sending::Sent(sent) => {
-            let mut payload = [0u8; 8];
-            // It is written: crates/dialling/specs/SenderClaims.antt.
-            digits::layout::put_digits(&mut payload, 0, sent);
-            console::print::octets(rt, b"sent=", &payload);
-            hear(rt, Kind::Digits, who, receivers, &payload)
-        }
+        Kind::Voice => receiver.hear_voice(),
+        Kind::Fresh => *receiver = Receiver::fresh(),
+        _ => {}
     }
 }
 
@@ -120,35 +55,48 @@ fn entry(octets: &[u8]) -> Entry {
     }
 }
 
-// `digit=`: an entry is sent.
-fn digit(rt: &impl Print, octets: &[u8], dialling: Dialling) -> Dialling {
-    let sender = dialling.sender;
-    let receivers = dialling.receivers;
-    let taken = dialling::send(sender, entry(octets));
-    let answer = taken.answer;
-    let after = taken.sender;
-    Dialling {
-        sender: after,
-        receivers: tell(rt, answer, octets::octet(octets, 0), receivers),
+impl Dialling {
+    // As document 01 has them at their start.
+    pub fn begin() -> Dialling {
+        Dialling {
+            sender: Sender::fresh(),
+            first: Receiver::fresh(),
+            second: Receiver::fresh(),
+        }
     }
-}
 
-// A line of a kind; one that is not about digits changes nothing.
-pub fn take(rt: &impl Print, kind: Kind, octets: &[u8], dialling: Dialling) -> Dialling {
-    match kind {
-        Kind::Digit => digit(rt, octets, dialling),
-        _ => {
-            let sender = dialling.sender;
-            let receivers = dialling.receivers;
-            Dialling {
-                sender,
-                receivers: hear(
-                    rt,
-                    kind,
-                    octets::octet(octets, 0),
-                    receivers,
-                    crate::line::behind(octets, 1),
-                ),
+    // What a line of a kind does to the receivers that *who* names: 1 the first, 2 the second, 3 both.
+    fn hear(&mut self, rt: &impl Print, kind: Kind, who: u8, payload: &[u8]) {
+        if who % 2 == 1 {
+            get(rt, kind, 1, &mut self.first, payload);
+        }
+        if 1 < who {
+            get(rt, kind, 2, &mut self.second, payload);
+        }
+    }
+
+    // `digit=`: an entry is sent. What is sent comes to the receivers that *who* names.
+    fn digit(&mut self, rt: &impl Print, octets: &[u8]) {
+        match self.sender.send(entry(octets)) {
+            Err(refusal) => crate::line::refused(rt, refusal),
+            Ok(None) => console::print::name(rt, b"unsent="),
+            Ok(Some(sent)) => {
+                let mut payload = [0u8; 8];
+                // It is written: crates/dialling/specs/SenderClaims.antt.
+                let _ = digits::layout::put_digits(&mut payload, 0, sent);
+                console::print::octets(rt, b"sent=", &payload);
+                self.hear(rt, Kind::Digits, octets::octet(octets, 0), &payload);
+            }
+        }
+    }
+
+    // A line of a kind; one that is not about digits changes nothing.
+    pub fn take(&mut self, rt: &impl Print, kind: Kind, octets: &[u8]) {
+        match kind {
+            Kind::Digit => self.digit(rt, octets),
+            _ => {
+                let who = octets::octet(octets, 0);
+                self.hear(rt, kind, who, crate::line::behind(octets, 1));
             }
         }
     }

@@ -1,7 +1,10 @@
 // The kinds of line, their keys and their octets (docs/TRIAL.md, "Input").
+ghost use Rattle.std.specs.Prelude.{IfSome};
 ghost use Rattle.console.specs.Counts.{IsPrefixLen};
 
-#[derive(Clone, Copy)]
+use refusal::Refusal;
+
+#[derive(Clone, Copy, PartialEq, Eq)]
 pub enum Kind {
     Digit,
     Start,
@@ -10,46 +13,29 @@ pub enum Kind {
     Signalling,
     Voice,
     Fresh,
-    Unknown,
 }
 
-// The kind that the key of a line names.
-fn kind_of(text: &[u8]) -> Kind {
-    if octets::text::starts(text, b"digit=") {
-        return Kind::Digit;
+// The kind that a key names.
+fn kind_of(key: &[u8]) -> Option<Kind> {
+    match key {
+        b"digit=" => Some(Kind::Digit),
+        b"start=" => Some(Kind::Start),
+        b"samples=" => Some(Kind::Samples),
+        b"digits=" => Some(Kind::Digits),
+        b"signalling=" => Some(Kind::Signalling),
+        b"voice=" => Some(Kind::Voice),
+        b"fresh=" => Some(Kind::Fresh),
+        _ => None,
     }
-    if octets::text::starts(text, b"start=") {
-        return Kind::Start;
-    }
-    if octets::text::starts(text, b"samples=") {
-        return Kind::Samples;
-    }
-    if octets::text::starts(text, b"digits=") {
-        return Kind::Digits;
-    }
-    if octets::text::starts(text, b"signalling=") {
-        return Kind::Signalling;
-    }
-    if octets::text::starts(text, b"voice=") {
-        return Kind::Voice;
-    }
-    if octets::text::starts(text, b"fresh=") {
-        return Kind::Fresh;
-    }
-    Kind::Unknown
 }
 
 // Whether a line of the kind has as many octets as it takes.
 fn size_fits(kind: Kind, count: usize) -> bool {
     match kind {
         Kind::Digit => count == 5,
-        Kind::Start => count == 1,
         Kind::Samples => count == 12,
-        Kind::Digits => 1 <= count,
-        Kind::Signalling => 1 <= count,
-        Kind::Voice => count == 1,
-        Kind::Fresh => count == 1,
-        Kind::Unknown => false,
+        Kind::Digits | Kind::Signalling => 1 <= count,
+        Kind::Start | Kind::Voice | Kind::Fresh => count == 1,
     }
 }
 
@@ -59,8 +45,7 @@ fn in_range(kind: Kind, octets: &[u8]) -> bool {
     let second = octets::octet(octets, 1) <= 1;
     match kind {
         Kind::Start => true,
-        Kind::Digit => who && second,
-        Kind::Samples => who && second,
+        Kind::Digit | Kind::Samples => who && second,
         _ => who,
     }
 }
@@ -77,26 +62,21 @@ pub struct Stated {
     pub size: usize,
 }
 
-// The kind and the octets of a line that has such octets as its kind takes. Any other is malformed, that is answered, and it is of no
-// kind.
-pub fn known(rt: &impl Print, number: u64, text: &[u8], room: &mut [u8]) -> Stated
-    ensures { IsPrefixLen result.size room.new }
+// The kind and the octets of a line that has such octets as its kind takes; none of any other, which is malformed.
+pub fn known(text: &[u8], room: &mut [u8]) -> Option<Stated>
+    ensures { IfSome result (λ s. IsPrefixLen s.size room.new) }
 {
-    let kind = kind_of(text);
-    let decoded = console::hex::decode(text, console::key::size(text), room);
-    let size = decoded.size;
-    if decoded.sound && fits(kind, &room[..size]) {
-        return Stated { kind, size };
+    let at = console::key::size(text);
+    let kind = kind_of(&text[..at])?;
+    let size = console::hex::decode(text, at, room)?;
+    if !fits(kind, &room[..size]) {
+        return None;
     }
-    console::lines::malformed(rt, number);
-    Stated {
-        kind: Kind::Unknown,
-        size: 0,
-    }
+    Some(Stated { kind, size })
 }
 
 // The octets of a line from a place on.
-pub fn behind<'a>(octets: &'a [u8], at: usize) -> &'a [u8] {
+pub fn behind(octets: &[u8], at: usize) -> &[u8] {
     if at <= octets.len() {
         &octets[at..]
     } else {
@@ -104,12 +84,7 @@ pub fn behind<'a>(octets: &'a [u8], at: usize) -> &'a [u8] {
     }
 }
 
-// Prints the refusal number of a payload, or how many periods are filled before it, and answers whether it is accepted.
-pub fn accepted(rt: &impl Print, number: u8, fills: u8) -> bool {
-    if number != refusal::SOUND {
-        console::print::number(rt, b"refused=", number as u64);
-        return false;
-    }
-    console::print::number(rt, b"filled=", fills as u64);
-    true
+// Prints the number of a refusal.
+pub fn refused(rt: &impl Print, refusal: Refusal) {
+    console::print::number(rt, b"refused=", u64::from(refusal.number()));
 }

@@ -8,6 +8,7 @@ mod seize;
 use crate::dial::Dialling;
 use crate::seize::Seizing;
 use console::input::Input;
+use seizing::Sender;
 use std::io::Read;
 
 // The senders and receivers of both kinds.
@@ -17,38 +18,37 @@ struct Parties {
     seizing: Seizing,
 }
 
-// A line without its LF; the octets of the longest have room.
-fn answer(rt: &impl Print, number: u64, text: &[u8], parties: Parties) -> Parties {
-    let mut room = [0u8; 2000];
-    let stated = crate::line::known(rt, number, text, &mut room);
-    let kind = stated.kind;
-    let size = stated.size;
-    let dialling = parties.dialling;
-    let seizing = parties.seizing;
-    Parties {
-        dialling: crate::dial::take(rt, kind, &room[..size], dialling),
-        seizing: crate::seize::take(rt, kind, &room[..size], seizing),
+impl Parties {
+    // A line without its LF; the octets of the longest have room.
+    fn answer(&mut self, rt: &impl Print, number: u64, text: &[u8]) {
+        let mut room = [0u8; 2000];
+        match crate::line::known(text, &mut room) {
+            Some(stated) => {
+                let octets = &room[..stated.size];
+                self.dialling.take(rt, stated.kind, octets);
+                self.seizing.take(rt, stated.kind, octets);
+            }
+            None => console::lines::malformed(rt, number),
+        }
     }
 }
 
 // All lines. No run uses the numbers up.
-fn run(rt: &impl Print, reader: &mut impl Read, block: &mut [u8], text: &mut [u8]) {
-    let mut parties = Parties {
-        dialling: crate::dial::start_state(),
-        seizing: crate::seize::start_state(),
-    };
+fn run(
+    rt: &impl Print,
+    reader: &mut impl Read,
+    block: &mut [u8],
+    text: &mut [u8],
+    parties: &mut Parties,
+) {
     let mut input = Input { taken: 0, have: 0 };
-    let mut number: u64 = 0;
-    while number < u64::MAX {
-        number += 1;
-        let line = console::lines::read(reader, block, text, input);
-        if line.ended {
+    for number in 1..=u64::MAX {
+        let given = console::lines::read(reader, block, text, input);
+        let Some(size) = given.line else {
             return;
-        }
-        let after = line.input;
-        input = after;
-        let size = line.size;
-        parties = answer(rt, number, &text[0..size], parties);
+        };
+        input = given.input;
+        parties.answer(rt, number, &text[..size]);
     }
 }
 
@@ -56,5 +56,12 @@ fn run(rt: &impl Print, reader: &mut impl Read, block: &mut [u8], text: &mut [u8
 fn main(rt: HostRuntime) {
     let mut block = [0u8; 4096];
     let mut text = [0u8; 4000];
-    run(&rt, &mut rt.stdin(), &mut block, &mut text);
+    // The start value 0 is allowed.
+    if let Ok(sender) = Sender::start(0) {
+        let mut parties = Parties {
+            dialling: Dialling::begin(),
+            seizing: Seizing::begin(sender),
+        };
+        run(&rt, &mut rt.stdin(), &mut block, &mut text, &mut parties);
+    }
 }

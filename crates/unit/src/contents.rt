@@ -1,12 +1,12 @@
 // The contents that a line states.
 use counts::{DigitCount, SignallingCount, VoiceCount};
 use digits::layout::{Digits, Window};
-use fax::{Command, Stamp};
+use fax::Command;
 use sid::Sid;
 use signalling::layout::Signalling;
 
 // The octets of a line from a place on.
-pub fn body<'a>(octets: &'a [u8], at: usize) -> &'a [u8] {
+pub fn body(octets: &[u8], at: usize) -> &[u8] {
     if at <= octets.len() {
         &octets[at..]
     } else {
@@ -49,20 +49,17 @@ pub fn digits(octets: &[u8]) -> Digits {
 // alarm, sequence, thirty samples
 pub fn signalling(octets: &[u8]) -> Signalling {
     let mut samples = [0u8; 30];
-    octets::put_octets(&mut samples, 0, body(octets, 4));
+    let _ = octets::put_octets(&mut samples, 0, body(octets, 4));
     Signalling {
         alarm: set(octets, 2),
         sequence: SignallingCount(octets::octet(octets, 3)),
-        samples: samples,
+        samples,
     }
 }
 
 // sequence, stamped, stamp high, stamp low, command, hdlc, modulation, frequency high, frequency low
-pub fn stamp(octets: &[u8]) -> Stamp {
-    if set(octets, 3) {
-        return Stamp::Stamped(crate::line::pair(octets, 4));
-    }
-    Stamp::NoStamp
+pub fn stamp(octets: &[u8]) -> Option<u16> {
+    set(octets, 3).then_some(crate::line::pair(octets, 4))
 }
 
 pub fn command(octets: &[u8]) -> Command {

@@ -17,13 +17,7 @@ pub fn none() -> Held {
 }
 
 // `card=`: cid.
-fn card<'a>(
-    rt: &impl Print,
-    frame: &'a [u8],
-    silence: &'a [u8],
-    table: &[u16; 256],
-    octets: &[u8],
-) {
+fn card(rt: &impl Print, frame: &[u8], silence: &[u8], table: &[u16; 256], octets: &[u8]) {
     let mut source: u8 = 0;
     let handed = card::handing::hand(frame, silence, table, octets::octet(octets, 0), &mut source);
     console::print::number(rt, b"source=", source as u64);
@@ -32,7 +26,7 @@ fn card<'a>(
 
 // Keeps octets at the start of a room that has them.
 fn keep(room: &mut [u8], octets: &[u8]) -> usize {
-    octets::put_octets(room, 0, octets);
+    let _ = octets::put_octets(room, 0, octets);
     octets.len()
 }
 

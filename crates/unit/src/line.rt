@@ -1,4 +1,5 @@
 // The kinds of line, their keys and their octets (docs/UNIT.md, "Input").
+ghost use Rattle.std.specs.Prelude.{IfSome};
 ghost use Rattle.console.specs.Counts.{IsPrefixLen};
 
 #[derive(Clone, Copy)]
@@ -19,49 +20,24 @@ pub enum Kind {
     Room,
     Shown,
     Written(Content),
-    Unknown,
 }
 
-// The kind that the key of a line names.
-fn kind_of(text: &[u8]) -> Kind {
-    if octets::text::starts(text, b"frame=") {
-        return Kind::Frame;
+// The kind that a key names.
+fn kind_of(key: &[u8]) -> Option<Kind> {
+    match key {
+        b"frame=" => Some(Kind::Frame),
+        b"silence=" => Some(Kind::Silence),
+        b"card=" => Some(Kind::Card),
+        b"room=" => Some(Kind::Room),
+        b"shown=" => Some(Kind::Shown),
+        b"voice=" => Some(Kind::Written(Content::Voice)),
+        b"digits=" => Some(Kind::Written(Content::Digits)),
+        b"signalling=" => Some(Kind::Written(Content::Signalling)),
+        b"fax=" => Some(Kind::Written(Content::Fax)),
+        b"sid=" => Some(Kind::Written(Content::Sid)),
+        b"data=" => Some(Kind::Written(Content::Data)),
+        _ => None,
     }
-    if octets::text::starts(text, b"silence=") {
-        return Kind::Silence;
-    }
-    if octets::text::starts(text, b"card=") {
-        return Kind::Card;
-    }
-    if octets::text::starts(text, b"room=") {
-        return Kind::Room;
-    }
-    if octets::text::starts(text, b"shown=") {
-        return Kind::Shown;
-    }
-    written_kind(text)
-}
-
-fn written_kind(text: &[u8]) -> Kind {
-    if octets::text::starts(text, b"voice=") {
-        return Kind::Written(Content::Voice);
-    }
-    if octets::text::starts(text, b"digits=") {
-        return Kind::Written(Content::Digits);
-    }
-    if octets::text::starts(text, b"signalling=") {
-        return Kind::Written(Content::Signalling);
-    }
-    if octets::text::starts(text, b"fax=") {
-        return Kind::Written(Content::Fax);
-    }
-    if octets::text::starts(text, b"sid=") {
-        return Kind::Written(Content::Sid);
-    }
-    if octets::text::starts(text, b"data=") {
-        return Kind::Written(Content::Data);
-    }
-    Kind::Unknown
 }
 
 // The octets of a room that are in use.
@@ -85,10 +61,7 @@ const MOST: usize = 1700;
 
 // Whether there are at least so many octets and at most MOST behind them.
 fn body_fits(octets: &[u8], front: usize) -> bool {
-    if octets.len() < front {
-        return false;
-    }
-    octets.len() - front <= MOST
+    front <= octets.len() && octets.len() - front <= MOST
 }
 
 fn truth(octets: &[u8], at: usize) -> bool {
@@ -98,13 +71,11 @@ fn truth(octets: &[u8], at: usize) -> bool {
 // Whether a line of the kind has these octets: as many as it takes, and each in its range.
 fn fits(kind: Kind, octets: &[u8]) -> bool {
     match kind {
-        Kind::Frame => octets.len() <= MOST,
-        Kind::Silence => octets.len() <= MOST,
+        Kind::Frame | Kind::Silence => octets.len() <= MOST,
         Kind::Card => octets.len() == 1,
         Kind::Room => octets.len() == 2 && pair(octets, 0) <= 1700,
-        Kind::Shown => octets.len() == 0,
+        Kind::Shown => octets.is_empty(),
         Kind::Written(content) => content_fits(content, octets),
-        Kind::Unknown => false,
     }
 }
 
@@ -136,20 +107,15 @@ pub struct Stated {
     pub size: usize,
 }
 
-// The kind and the octets of a line that has such octets as its kind takes. Any other is malformed, that is answered, and it is of no
-// kind.
-pub fn known(rt: &impl Print, number: u64, text: &[u8], room: &mut [u8]) -> Stated
-    ensures { IsPrefixLen result.size room.new }
+// The kind and the octets of a line that has such octets as its kind takes; none of any other, which is malformed.
+pub fn known(text: &[u8], room: &mut [u8]) -> Option<Stated>
+    ensures { IfSome result (λ s. IsPrefixLen s.size room.new) }
 {
-    let kind = kind_of(text);
-    let decoded = console::hex::decode(text, console::key::size(text), room);
-    let size = decoded.size;
-    if decoded.sound && fits(kind, &room[..size]) {
-        return Stated { kind, size };
+    let at = console::key::size(text);
+    let kind = kind_of(&text[..at])?;
+    let size = console::hex::decode(text, at, room)?;
+    if !fits(kind, &room[..size]) {
+        return None;
     }
-    console::lines::malformed(rt, number);
-    Stated {
-        kind: Kind::Unknown,
-        size: 0,
-    }
+    Some(Stated { kind, size })
 }

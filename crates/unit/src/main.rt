@@ -31,14 +31,26 @@ fn answer(
     stands: Stands,
 ) -> Stands {
     let mut room = [0u8; 2000];
-    let stated = crate::line::known(rt, number, text, &mut room);
-    let kind = stated.kind;
-    let size = stated.size;
-    let held = stands.held;
-    let written = stands.lent;
-    Stands {
-        held: crate::hand::take(rt, kind, &room[..size], table, frame, silence, held),
-        lent: crate::write::take(rt, kind, &room[..size], table, lent, written),
+    match crate::line::known(text, &mut room) {
+        Some(stated) => {
+            let octets = &room[..stated.size];
+            Stands {
+                held: crate::hand::take(
+                    rt,
+                    stated.kind,
+                    octets,
+                    table,
+                    frame,
+                    silence,
+                    stands.held,
+                ),
+                lent: crate::write::take(rt, stated.kind, octets, table, lent, stands.lent),
+            }
+        }
+        None => {
+            console::lines::malformed(rt, number);
+            stands
+        }
     }
 }
 
@@ -59,20 +71,16 @@ fn run(
         lent: crate::write::none(),
     };
     let mut input = begins;
-    let mut number: u64 = 0;
-    while number < u64::MAX {
-        number += 1;
-        let line = console::lines::read(reader, block, text, input);
-        if line.ended {
+    for number in 1..=u64::MAX {
+        let given = console::lines::read(reader, block, text, input);
+        let Some(size) = given.line else {
             return;
-        }
-        let after = line.input;
-        input = after;
-        let size = line.size;
+        };
+        input = given.input;
         stands = answer(
             rt,
             number,
-            &text[0..size],
+            &text[..size],
             table,
             &mut frame,
             &mut silence,
@@ -88,7 +96,7 @@ fn main(rt: HostRuntime) {
     let mut block = [0u8; 65536];
     let mut table = [0u16; 256];
     let start = streaming::input::begin(&rt, &mut reader, b"unit", &mut block, &mut table);
-    if start.taken {
+    if start.text.is_ok() {
         let behind = start.behind;
         let input = Input {
             taken: behind.from,

@@ -2,8 +2,7 @@
 use crate::line::{Content, Kind};
 use counts::{DataCount, VoiceCount};
 use place::Writer;
-use writer::primary::Primary;
-use writer::signalled::Signalled;
+use refusal::Refusal;
 
 // How many octets the lent frame has, and where the writer stands.
 #[derive(Clone, Copy)]
@@ -20,94 +19,60 @@ pub fn none() -> Lent {
     }
 }
 
-// Every octet of the lent frame is `ee`.
-fn cleared(lent: &mut [u8]) {
-    let mut i: usize = 0;
-    while i < lent.len() {
-        lent[i] = 0xee;
-        i += 1;
-    }
-}
-
-// Prints the writer after a sub-frame.
-fn taken(rt: &impl Print, next: Writer) -> Writer {
-    console::print::number(rt, b"at=", next.at as u64);
-    console::print::number(rt, b"count=", next.count as u64);
-    console::print::number(rt, b"done=", next.done as u64);
-    next
-}
-
-fn refused(rt: &impl Print, number: u8, writer: Writer) -> Writer {
-    console::print::number(rt, b"refused=", number as u64);
-    writer
-}
-
-fn primary(rt: &impl Print, answer: Primary, writer: Writer) -> Writer {
+// Prints the writer after a sub-frame, or the refusal, which leaves the writer where it was.
+fn answered(rt: &impl Print, answer: Result<Writer, Refusal>, writer: Writer) -> Writer {
     match answer {
-        Primary::PrimaryTaken(next) => taken(rt, next),
-        Primary::PrimaryRefused(number) => refused(rt, number, writer),
-    }
-}
-
-fn signalled(rt: &impl Print, answer: Signalled, writer: Writer) -> Writer {
-    match answer {
-        Signalled::SignalledTaken(next) => taken(rt, next),
-        Signalled::SignalledRefused(number) => refused(rt, number, writer),
+        Ok(next) => {
+            console::print::number(rt, b"at=", next.at as u64);
+            console::print::number(rt, b"count=", next.count as u64);
+            console::print::number(rt, b"done=", u64::from(next.done));
+            next
+        }
+        Err(refusal) => {
+            console::print::number(rt, b"refused=", u64::from(refusal.number()));
+            writer
+        }
     }
 }
 
 // Writes the content of a line: last and cid stand first in every line.
 fn write(
-    rt: &impl Print,
     content: Content,
     frame: &mut [u8],
     writer: Writer,
     table: &[u16; 256],
     octets: &[u8],
-) -> Writer {
+) -> Result<Writer, Refusal> {
     let last = crate::contents::set(octets, 0);
     let cid = octets::octet(octets, 1);
     match content {
-        Content::Voice => write_voice(rt, frame, writer, last, table, cid, octets),
+        Content::Voice => write_voice(frame, writer, last, table, cid, octets),
         Content::Digits => {
             let digits = crate::contents::digits(octets);
-            signalled(
-                rt,
-                writer::signalled::write_digits(frame, writer, last, table, cid, digits),
-                writer,
-            )
+            writer::signalled::write_digits(frame, writer, last, table, cid, digits)
         }
         Content::Signalling => {
             let signalling = crate::contents::signalling(octets);
-            signalled(
-                rt,
-                writer::signalled::write_signalling(frame, writer, last, table, cid, signalling),
-                writer,
-            )
+            writer::signalled::write_signalling(frame, writer, last, table, cid, signalling)
         }
-        Content::Fax => write_fax(rt, frame, writer, last, table, cid, octets),
+        Content::Fax => write_fax(frame, writer, last, table, cid, octets),
         Content::Sid => {
             let sid = crate::contents::sid(octets);
-            signalled(
-                rt,
-                writer::signalled::write_sid(frame, writer, last, table, cid, sid),
-                writer,
-            )
+            writer::signalled::write_sid(frame, writer, last, table, cid, sid)
         }
-        Content::Data => write_data(rt, frame, writer, last, table, cid, octets),
+        Content::Data => write_data(frame, writer, last, table, cid, octets),
     }
 }
 
 fn write_voice(
-    rt: &impl Print,
     frame: &mut [u8],
     writer: Writer,
     last: bool,
     table: &[u16; 256],
     cid: u8,
     octets: &[u8],
-) -> Writer {
-    let answer = writer::primary::write_voice(
+) -> Result<Writer, Refusal> {
+    writer::primary::write_voice(
         frame,
         writer,
         last,
@@ -116,20 +81,18 @@ fn write_voice(
         VoiceCount(octets::octet(octets, 2)),
         octets::octet(octets, 3),
         crate::contents::body(octets, 4),
-    );
-    primary(rt, answer, writer)
+    )
 }
 
 fn write_fax(
-    rt: &impl Print,
     frame: &mut [u8],
     writer: Writer,
     last: bool,
     table: &[u16; 256],
     cid: u8,
     octets: &[u8],
-) -> Writer {
-    let answer = writer::signalled::write_fax(
+) -> Result<Writer, Refusal> {
+    writer::signalled::write_fax(
         frame,
         writer,
         last,
@@ -139,20 +102,18 @@ fn write_fax(
         crate::contents::stamp(octets),
         crate::contents::command(octets),
         crate::contents::body(octets, 11),
-    );
-    signalled(rt, answer, writer)
+    )
 }
 
 fn write_data(
-    rt: &impl Print,
     frame: &mut [u8],
     writer: Writer,
     last: bool,
     table: &[u16; 256],
     cid: u8,
     octets: &[u8],
-) -> Writer {
-    let answer = writer::primary::write_data(
+) -> Result<Writer, Refusal> {
+    writer::primary::write_data(
         frame,
         writer,
         last,
@@ -162,8 +123,7 @@ fn write_data(
         crate::contents::set(octets, 3),
         DataCount(crate::line::pair(octets, 4)),
         crate::contents::body(octets, 6),
-    );
-    primary(rt, answer, writer)
+    )
 }
 
 // A line of a kind; one that is not about the lent frame changes nothing.
@@ -177,7 +137,8 @@ pub fn take(
 ) -> Lent {
     match kind {
         Kind::Room => {
-            cleared(lent);
+            // Every octet of the lent frame is `ee`.
+            lent.fill(0xee);
             Lent {
                 room: crate::line::pair(octets, 0) as usize,
                 writer: place::fresh(),
@@ -188,11 +149,11 @@ pub fn take(
             stands
         }
         Kind::Written(content) => {
-            let room = octets::least(stands.room, lent.len());
-            let writer = stands.writer;
+            let room = stands.room.min(lent.len());
+            let answer = write(content, &mut lent[..room], stands.writer, table, octets);
             Lent {
                 room,
-                writer: write(rt, content, &mut lent[0..room], writer, table, octets),
+                writer: answered(rt, answer, stands.writer),
             }
         }
         _ => stands,

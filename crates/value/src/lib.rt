@@ -1,73 +1,62 @@
 // The values of the lines of a provisioning text: a number or a syntax word, each ended by LF (document 01, "Provisioning text").
 #![tactic(auto)]
 
-ghost use Rattle.std.specs.Prelude.{◌≡◌};
-ghost use Rattle.value.specs.Value.{digit_of, number_by, number_of, word_of};
+ghost use Rattle.std.specs.Prelude.{◌≡◌, ◌≤◌, Some, IfSome};
+ghost use Rattle.value.specs.Value.{digit_of, number_by, number_of, valued, word_of};
 ghost use Rattle.record.specs.Record.{place};
 
+use octets::text::LF;
 use record::syntax::Syntax;
 
-// What stands behind a key.
+// What stands behind a key: a number; or the place of a syntax word in document 01's list. `size` counts the octets with the LF.
+// Both are 0 for any other word.
 #[derive(Clone, Copy)]
-pub enum Value {
-    // A number; or the place of a syntax word in document 01's list. `size` counts the octets with the LF. Both are 0 for any other
-    // word.
-    Whole { value: u16, size: usize },
-    // A malformed number, or no LF comes.
-    Malformed,
+pub struct Value {
+    pub value: u16,
+    pub size: usize,
 }
 
-// The value of a digit, and 10 of any other octet.
-fn digit_of(octet: u8) -> u16
-    ensures { result ≡ digit_of octet }
+// The value of a digit.
+#[tactic(auto, unfolding(crate::specs::Value::digit_of))]
+fn digit_of(octet: u8) -> Option<u16>
+    ensures says { result ≡ digit_of octet }
+    ensures digit { IfSome result (λ d. d ≤ 9) }
 {
-    if octet < 48 {
-        return 10;
+    match octet {
+        b'0'..=b'9' => Some(u16::from(octet - b'0')),
+        _ => None,
     }
-    if 57 < octet {
-        return 10;
-    }
-    (octet - 48) as u16
 }
 
 // The number that four octets start with: one to three digits, no leading zero, then LF.
 #[tactic(auto, unfolding(crate::specs::Value::number_by, crate::specs::Value::second_digit, crate::specs::Value::third_digit))]
-fn number_by(first: u8, second: u8, third: u8, fourth: u8) -> Value
+fn number_by(first: u8, second: u8, third: u8, fourth: u8) -> Option<Value>
     ensures { result ≡ number_by first second third fourth }
 {
-    let a = digit_of(first);
-    if 9 < a {
-        return Value::Malformed;
-    }
-    if second == octets::text::LF {
-        return Value::Whole { value: a, size: 2 };
+    let a = digit_of(first)?;
+    if second == LF {
+        return Some(Value { value: a, size: 2 });
     }
     if a == 0 {
-        return Value::Malformed;
+        return None;
     }
-    let b = digit_of(second);
-    if 9 < b {
-        return Value::Malformed;
-    }
+    let b = digit_of(second)?;
     let ab = a * 10 + b;
-    if third == octets::text::LF {
-        return Value::Whole { value: ab, size: 3 };
+    if third == LF {
+        return Some(Value { value: ab, size: 3 });
     }
-    let c = digit_of(third);
-    if 9 < c {
-        return Value::Malformed;
-    }
-    if fourth == octets::text::LF {
-        return Value::Whole {
+    let c = digit_of(third)?;
+    if fourth == LF {
+        return Some(Value {
             value: ab * 10 + c,
             size: 4,
-        };
+        });
     }
-    Value::Malformed
+    None
 }
 
-// The number that a text starts with.
-pub fn number_of(s: &[u8]) -> Value
+// The number that a text starts with: `None` where it is malformed, or no LF comes.
+pub fn number_of(s: &[u8]) -> Option<Value>
     ensures { result ≡ number_of s.now }
 {
     number_by(
@@ -79,17 +68,18 @@ pub fn number_of(s: &[u8]) -> Value
 }
 
 // The word of a syntax, with its LF.
-fn known(syntax: Syntax, size: usize) -> Value
-    ensures { result ≡ Value.Whole (place syntax) size }
+fn known(syntax: Syntax, size: usize) -> Option<Value>
+    ensures { result ≡ Some (valued (place syntax) size) }
 {
-    Value::Whole {
+    Some(Value {
         value: record::syntax::place_of(syntax),
         size,
-    }
+    })
 }
 
-// The syntax word that a text starts with.
-pub fn word_of(s: &[u8]) -> Value
+// The syntax word that a text starts with: `None` where no LF comes.
+#[tactic(auto, unfolding(crate::specs::Value::word_among))]
+pub fn word_of(s: &[u8]) -> Option<Value>
     ensures { result ≡ word_of s.now }
 {
     if octets::text::starts(s, b"acelp\n") {
@@ -115,7 +105,7 @@ pub fn word_of(s: &[u8]) -> Value
     }
     // Any other word.
     if octets::text::has_lf(s) {
-        return Value::Whole { value: 0, size: 0 };
+        return Some(Value { value: 0, size: 0 });
     }
-    Value::Malformed
+    None
 }

@@ -2,6 +2,7 @@
 use Prim.Native.Nat.{ℕ, zero, suc, ◌+◌, ◌*◌, ◌/◌, ◌%◌, ◌^◌, ◌≤◌, ◌<◌}
 use mathlib.Core.Path.{◌≡◌, refl, sym, ap, ◌∙◌}
 use mathlib.Core.Bool.{Bool, true, false}
+use mathlib.Core.Logic.{⊎_elim}
 use mathlib.Core.List.{List, [], ◌∷◌, map}
 use native.Mathlib.Nat.{div-div-eq-div-mul, zero-div}
 use native.Mathlib.Omega.{arith}
@@ -9,12 +10,18 @@ use lib.Dec.{T}
 use lib.ListN.{length, get_or, get_or-map, get_or-eq_default}
 use lib.Pow.{pow-add}
 use Rattle.octets.proofs.Table.{at_most, entries}
+use Rattle.std.specs.declared.result.Result.TheVariants.{Err}
+use Rattle.refusal.specs.declared.Refusal.TheVariants.{CodingTypeUnknown}
+use Rattle.octets.proofs.Order.{lt-or-le}
+use Rattle.record.specs.declared.syntax.Record.{Record}
 use Rattle.record.specs.declared.syntax.Syntax.{Syntax}
 use Rattle.record.specs.declared.syntax.Syntax.TheVariants.{Acelp, Pcm, G727, G728, G7231, Data, Fax}
 use Rattle.record.specs.Record.{place}
 use Rattle.voice.specs.Voice.{pcm_bits, g727_bits, codings, block_octets, is_g7231, voiceless}
-use Rattle.voice.specs.Private.{in_hex, fives_at}
+use Rattle.voice.specs.Private.{length_judged, in_hex, fives_at}
 use Rattle.voice.specs.Claims.{FiveTimesBits}
+use Rattle.voice.proofs.VoiceCases.{judged}
+use Rattle.voice.proofs.VoiceCases as cases
 
 pub five-times-bits : FiveTimesBits
 five-times-bits = record { pcm = refl; g727 = refl }
@@ -98,21 +105,32 @@ blocks G7231 h = absurd (omega arith)
 blocks Data h = absurd (omega arith)
 blocks Fax h = absurd (omega arith)
 
--- behind g7231, data and fax; at its place, g7231 itself
-pub data-or-fax : (syntax : Syntax) → 5 < place syntax → codings syntax ≡ 0
-data-or-fax Acelp h = absurd (omega arith)
-data-or-fax Pcm h = absurd (omega arith)
-data-or-fax G727 h = absurd (omega arith)
-data-or-fax G728 h = absurd (omega arith)
-data-or-fax G7231 h = absurd (omega arith)
-data-or-fax Data h = refl
-data-or-fax Fax h = refl
+-- a body of blocks, by what the code works out: the syntax stands at a place before g7231, and its coding type has so many octets
+module _ (syntax : Syntax) (coding at fives each : ℕ) (before : at < 5) (is : at ≡ place syntax) (told : fives ≡ in_hex (fives_at at))
+    (five-times : each ≡ fives / 2 ^ (coding * 4) % 16 * 5) where
+  of : Blocks syntax
+  of = blocks syntax (omega arith)
 
-pub frames : (syntax : Syntax) → place syntax ≡ 5 → is_g7231 syntax ≡ true
-frames Acelp h = absurd (omega arith)
-frames Pcm h = absurd (omega arith)
-frames G727 h = absurd (omega arith)
-frames G728 h = absurd (omega arith)
-frames G7231 h = refl
-frames Data h = absurd (omega arith)
-frames Fax h = absurd (omega arith)
+  each-is : each ≡ each_at syntax coding
+  each-is = five-times ∙ rw (told, is)
+
+  pub each_small : each ≤ 40
+  each_small = rw each-is (of.most coding)
+
+module _ (r : Record) (coding : ℕ) (body : List ℕ) (at fives each : ℕ) (before : at < 5) (is : at ≡ place r.syntax)
+    (told : fives ≡ in_hex (fives_at at)) (five-times : each ≡ fives / 2 ^ (coding * 4) % 16 * 5) where
+  b : Blocks r.syntax
+  b = of r.syntax coding at fives each before is told five-times
+
+  same : each ≡ each_at r.syntax coding
+  same = each-is r.syntax coding at fives each before is told five-times
+
+  pub blocks_unknown : each ≡ 0 → judged r coding body ≡ Err CodingTypeUnknown
+  blocks_unknown none =
+      cases.unknown-judged r coding body b.no-frame b.voice
+      (⊎_elim (λ known. absurd (omega (arith, b.some coding known, same))) (λ h. h) (lt-or-le coding (codings r.syntax)))
+
+  pub blocks_known : (each ≡ 0 → ⊥) → judged r coding body ≡ length_judged r.m each (length body)
+  blocks_known some =
+      let known = ⊎_elim (λ h. h) (λ unknown. absurd (some (same ∙ b.none coding unknown))) (lt-or-le coding (codings r.syntax)) in
+      cases.known-judged r coding body b.no-frame b.voice known (same ∙ b.octets coding known)

@@ -4,18 +4,21 @@ use mathlib.Core.Path.{◌≡◌, refl}
 use mathlib.Core.List.{List, [], ◌∷◌}
 use mathlib.Core.Bool.{true}
 use lib.ListN.{replicate}
+use Rattle.std.specs.Prelude.{Result, Ok, Err}
+use Rattle.refusal.specs.declared.Refusal.{Refusal}
+use Rattle.refusal.specs.declared.Refusal.TheVariants.{CodingTypeUnknown}
+use Rattle.refusal.specs.Numbers as numbers
 use Rattle.octets.specs.Made.{unmade}
 use Rattle.record.specs.declared.syntax.Record.{Record}
 use Rattle.record.specs.declared.syntax.Syntax.{Syntax}
 use Rattle.record.specs.declared.syntax.Syntax.TheVariants.{Acelp, Pcm, G727, G728}
-use Rattle.voice.specs.declared.VoiceRead.{VoiceRead}
-use Rattle.voice.specs.declared.VoiceRead.TheVariants.{Voice, BadVoice}
+use Rattle.voice.specs.declared.Voice.{Voice}
 use Rattle.voice.specs.Voice.{block_octets, body_octets, front_of, voice_read, voice_made}
 
 -- 0, or the refusal
-abbrev number : VoiceRead → ℕ
-number (Voice sequence coding front) = 0
-number (BadVoice refused) = refused
+abbrev number : Result Voice Refusal → ℕ
+number (Ok voice) = 0
+number (Err refusal) = numbers.number refusal
 
 abbrev of : Syntax → ℕ → Record
 of syntax m = record { syntax = syntax; m = m; seq = true }
@@ -61,6 +64,6 @@ unfolding voice_read front_of body_octets block_octets
 no-coding-type = refl
 
 -- a writer can state a coding type over 15: it is not counted round
-pub written-beyond : voice_made (of Pcm 1) 0 16 (replicate 40 0) ∷ voice_made (of G727 1) 0 64 (replicate 10 0) ∷ [] ≡ replicate 2 (unmade 16)
+pub written-beyond : voice_made (of Pcm 1) 0 16 (replicate 40 0) ∷ voice_made (of G727 1) 0 64 (replicate 10 0) ∷ [] ≡ replicate 2 (unmade CodingTypeUnknown)
 unfolding voice_made body_octets block_octets
 written-beyond = refl

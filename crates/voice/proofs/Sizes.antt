@@ -21,14 +21,14 @@ codings-small G7231 = omega arith
 codings-small Data = omega arith
 codings-small Fax = omega arith
 
-pub frame-coding : (syntax : Syntax) → is_g7231 syntax ≡ true → codings syntax ≡ 1
-frame-coding Acelp e = refl
-frame-coding Pcm e = clash false e refl
-frame-coding G727 e = clash false e refl
-frame-coding G728 e = refl
-frame-coding G7231 e = refl
-frame-coding Data e = clash false e refl
-frame-coding Fax e = clash false e refl
+pub frame_coding : (syntax : Syntax) → is_g7231 syntax ≡ true → codings syntax ≡ 1
+frame_coding Acelp e = refl
+frame_coding Pcm e = clash false e refl
+frame_coding G727 e = clash false e refl
+frame_coding G728 e = refl
+frame_coding G7231 e = refl
+frame_coding Data e = clash false e refl
+frame_coding Fax e = clash false e refl
 
 -- what a front octet, or none, says of a syntax
 record Front (syntax : Syntax) (front : ℕ) : Type 0 where
@@ -49,9 +49,9 @@ front_fair G7231 seq = seq-front G7231 seq refl
 front_fair Data seq = record { one = omega arith; voice = λ h. absurd (omega arith); bare = λ h. omega arith }
 front_fair Fax seq = record { one = omega arith; voice = λ h. absurd (omega arith); bare = λ h. omega arith }
 
-pub front-small : (r : Record) → front_of r ≤ 1
+pub front_small : (r : Record) → front_of r ≤ 1
 unfolding front_of
-front-small r = (front_fair r.syntax r.seq).one
+front_small r = (front_fair r.syntax r.seq).one
 
 -- only a syntax with voice has a front octet
 pub fronted-voice : (r : Record) → 0 < front_of r → voiceless r.syntax ≡ false

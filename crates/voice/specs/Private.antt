@@ -1,13 +1,15 @@
 -- What the private functions of this crate promise to one another. A reader of voice payloads can pass this file over.
-use Rattle.std.specs.Prelude.{ℕ, ◌+◌, ◌*◌, cond, List, [], ◌∷◌, eqb}
-use Rattle.refusal.specs.Numbers.{sound, length_wrong}
+use Rattle.std.specs.Prelude.{ℕ, ◌+◌, ◌*◌, cond, not, List, [], ◌∷◌, eqb, Result, Ok, Err}
+use Rattle.refusal.specs.Order.{◌gives◌, in_order}
+use Rattle.refusal.specs.declared.Refusal.{Refusal}
+use Rattle.refusal.specs.declared.Refusal.TheVariants.{LengthWrong}
 use Rattle.record.specs.declared.syntax.Syntax.TheVariants.{Pcm, G727}
 use Rattle.record.specs.Record.{place}
 use Rattle.voice.specs.Voice.{pcm_bits, g727_bits}
 
--- The refusal number of a body of so many octets that is to be m blocks of so many octets each: 0, or 13.
-abbrev pub length_number : ℕ → ℕ → ℕ → ℕ
-length_number m each len = cond (eqb len (m * each)) sound length_wrong
+-- What is answered to a body of so many octets that is to be m blocks of so many octets each: sound, or 13.
+abbrev pub length_judged : ℕ → ℕ → ℕ → Result Unit Refusal
+length_judged m each len = in_order (not (eqb len (m * each)) gives LengthWrong ∷ []) Err (Ok tt)
 
 -- A list as one number: a hex digit for each entry, the first entry in the last digit.
 abbrev pub in_hex : List ℕ → ℕ

@@ -2,15 +2,15 @@
 --
 --   front octet   bits 8 to 5 sequence, bits 4 to 1 coding type    under pcm and g727, and where seq=1
 --   body          the octets of the card, m blocks of them, or one G.723.1 frame
-use Rattle.std.specs.Prelude.{ℕ, ◌+◌, ◌*◌, ◌/◌, ◌%◌, List, [], ◌∷◌, ◌++◌, Bool, true, false, cond, not, ◌&&◌, ltb, leb, eqb, length, get_or, take, drop}
-use Rattle.refusal.specs.Numbers.{type_not_allowed, length_wrong, reserved_code, value_out_of_range, coding_type_unknown}
+use Rattle.std.specs.Prelude.{ℕ, ◌+◌, ◌*◌, ◌/◌, ◌%◌, List, [], ◌∷◌, ◌++◌, Bool, true, false, cond, not, ◌&&◌, ltb, leb, eqb, length, get_or, take, drop, Result, Ok, Err}
+use Rattle.refusal.specs.declared.Refusal.{Refusal}
+use Rattle.refusal.specs.declared.Refusal.TheVariants.{TypeNotAllowed, LengthWrong, ReservedCode, ValueOutOfRange, CodingTypeUnknown}
 use Rattle.refusal.specs.Order.{Test, ◌gives◌, in_order}
 use Rattle.octets.specs.Made.{Made, made, unmade}
 use Rattle.record.specs.declared.syntax.Syntax.{Syntax}
 use Rattle.record.specs.declared.syntax.Syntax.TheVariants.{Acelp, Pcm, G727, G728, G7231, Data, Fax}
 use Rattle.record.specs.declared.syntax.Record.{Record}
-use Rattle.voice.specs.declared.VoiceRead.{VoiceRead}
-use Rattle.voice.specs.declared.VoiceRead.TheVariants.{Voice, BadVoice}
+use Rattle.voice.specs.declared.Voice.{Voice}
 
 -- "F, codes 0 to 13"
 abbrev pub pcm_octets : List ℕ
@@ -107,23 +107,24 @@ body_in r payload = drop (front_of r) payload
 -- The refusals of a body with its coding type: 13 where the octet that decides its length is missing, 16, 14 for both flags, 13.
 abbrev pub body_refusals : Record → ℕ → List ℕ → List Test
 body_refusals r coding body =
-    ltb (length body) (deciding r.syntax) gives length_wrong
-    ∷ leb (codings r.syntax) coding gives coding_type_unknown
-    ∷ (is_g7231 r.syntax && both_flags (get_or body 0 0)) gives reserved_code
-    ∷ not (eqb (length body) (body_octets r coding (get_or body 0 0))) gives length_wrong
+    ltb (length body) (deciding r.syntax) gives LengthWrong
+    ∷ leb (codings r.syntax) coding gives CodingTypeUnknown
+    ∷ (is_g7231 r.syntax && both_flags (get_or body 0 0)) gives ReservedCode
+    ∷ not (eqb (length body) (body_octets r coding (get_or body 0 0))) gives LengthWrong
     ∷ []
 
 -- The refusals of a payload, in document 01's order.
 abbrev pub read_refusals : Record → List ℕ → List Test
 read_refusals r payload =
-    voiceless r.syntax gives type_not_allowed
-    ∷ ltb (length payload) (front_of r) gives length_wrong
+    voiceless r.syntax gives TypeNotAllowed
+    ∷ ltb (length payload) (front_of r) gives LengthWrong
     ∷ body_refusals r (coding_in r payload) (body_in r payload)
 
 -- What a payload tells.
-unfoldable pub voice_read : Record → List ℕ → VoiceRead
+unfoldable pub voice_read : Record → List ℕ → Result Voice Refusal
 voice_read r payload =
-    in_order (read_refusals r payload) BadVoice (Voice (record { 0 = sequence_in r payload }) (coding_in r payload) (front_of r))
+    in_order (read_refusals r payload) Err
+    (Ok (record { sequence = record { 0 = sequence_in r payload }; coding = coding_in r payload; front = front_of r }))
 
 -- The largest sequence that a payload with so many front octets carries.
 abbrev pub most_sequence : ℕ → ℕ
@@ -132,9 +133,9 @@ most_sequence front = cond (eqb front 0) 0 15
 -- The refusals of a content, for writing: in the reader's order, then 15 for a sequence beyond its bits.
 abbrev pub write_refusals : Record → ℕ → ℕ → List ℕ → List Test
 write_refusals r sequence coding body =
-    voiceless r.syntax gives type_not_allowed
+    voiceless r.syntax gives TypeNotAllowed
     ∷ body_refusals r coding body
-    ++ ltb (most_sequence (front_of r)) sequence gives value_out_of_range
+    ++ ltb (most_sequence (front_of r)) sequence gives ValueOutOfRange
     ∷ []
 
 -- The octets of a voice payload.

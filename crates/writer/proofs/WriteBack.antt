@@ -6,34 +6,34 @@ use mathlib.Core.Bool.{Bool, false}
 use native.Mathlib.Omega.{arith}
 use borrow.Author.Tests.{le-ltb}
 use lib.ListN.{length}
-use Rattle.refusal.specs.Numbers.{room_too_small}
 use Rattle.octets.specs.Made.{Made, made, fit_of}
 use Rattle.record.specs.declared.syntax.Record.{Record}
-use Rattle.record.specs.declared.table.Found.{Found}
-use Rattle.record.specs.declared.table.Found.TheVariants.{Provisioned, Unprovisioned}
 use Rattle.frame.specs.Opening.{most_octets, most_sub_frames}
 use Rattle.joining.specs.Joining.{header_size, shortest_header}
-use Rattle.payload.specs.declared.layout.TypeFor.TheVariants.{Typed, NoType}
 use Rattle.payload.specs.Layout.{type_for}
 use Rattle.payload.specs.Content.{Content, kind_of, payload_made}
 use Rattle.place.specs.declared.Writer.{Writer}
 use Rattle.place.specs.declared.Channel.{Channel}
-use Rattle.place.specs.declared.Channel.TheVariants.{Takes, TakesNot}
-use Rattle.place.specs.declared.Entered.{Entered}
-use Rattle.place.specs.declared.Entered.TheVariants.{Place, NoPlace}
-use Rattle.place.specs.Place.{channel_for, typed_on, on_channel, too_long, full, placed, entered}
+use Rattle.place.specs.declared.Place.{Place}
+use Rattle.place.specs.Place.{channel_for, typed_on, on_channel, too_long, full, placed, entered, takes_as, place_at}
 use Rattle.writer.specs.Writer.{entered_on, writes, refuses, sub_frame, taken, writing}
 use Rattle.place.proofs.ChannelCases.{by-record, taking}
 use Rattle.place.proofs.PlaceCases.{has-place, small, never}
 use Rattle.place.proofs.EnterCases.{entered-back}
+use Rattle.std.specs.declared.option.Option.{Option}
+use Rattle.refusal.specs.declared.Refusal.{Refusal}
+use Rattle.refusal.specs.declared.Refusal.TheVariants.{RoomTooSmall}
+use Rattle.std.specs.declared.result.Result.{Result}
+use Rattle.std.specs.declared.option.Option.TheVariants.{Some, None}
+use Rattle.std.specs.declared.result.Result.TheVariants.{Ok, Err}
 
 -- a sub-frame that is taken: all but the room
-pub record Took (w : Writer) (last : Bool) (found : Found) (cid : ℕ) (content : Content) (octets : List ℕ) (next : Writer) : Type 0 where
+pub record Took (w : Writer) (last : Bool) (found : Option Record) (cid : ℕ) (content : Content) (octets : List ℕ) (next : Writer) : Type 0 where
   pub ptype : ℕ
   pub payload : List ℕ
   pub going : w.done ≡ false
   pub free : 4 ≤ cid
-  pub typed : type_for found (kind_of content) ≡ Typed ptype
+  pub typed : type_for found (kind_of content) ≡ Ok ptype
   pub makes : payload_made found content ≡ made payload
   pub are : octets ≡ shortest_header cid ptype last (length payload) ++ payload
   pub goes_on : next ≡ record { at = w.at + header_size cid ptype last + length payload; count = w.count + 1; done = last }
@@ -41,17 +41,17 @@ pub record Took (w : Writer) (last : Bool) (found : Found) (cid : ℕ) (content 
   pub few : w.count + 1 ≤ most_sub_frames
   pub within : next.at ≤ most_octets
 
-refused-not : {A : Type 0} (n : ℕ) (octets : List ℕ) (next : Writer) → refuses n ≡ writes octets next → A
+refused-not : {A : Type 0} (n : Refusal) (octets : List ℕ) (next : Writer) → refuses n ≡ writes octets next → A
 refused-not n octets next e = let z : ◌≡◌ {A = ℕ} 0 1 = cc in absurd (omega arith)
 
 same_writes : (a b : List ℕ) (v w : Writer) → writes a v ≡ writes b w → (a ≡ b) × (v ≡ w)
 same_writes a b v w e = (cc, cc)
 
-untyped : {A : Type 0} (n ptype : ℕ) → NoType n ≡ Typed ptype → A
+untyped : {A : Type 0} (n : Refusal) (ptype : ℕ) → Err n ≡ Ok ptype → A
 untyped n ptype e = let z : ◌≡◌ {A = ℕ} 0 1 = cc in absurd (omega arith)
 
-module _ (w : Writer) (last : Bool) (found : Found) (cid : ℕ) (content : Content) (octets : List ℕ) (next : Writer) where
-  abbrev channel : Channel
+module _ (w : Writer) (last : Bool) (found : Option Record) (cid : ℕ) (content : Content) (octets : List ℕ) (next : Writer) where
+  abbrev channel : Result Channel Refusal
   channel = channel_for w found cid (kind_of content)
 
   abbrev m : Made
@@ -63,15 +63,19 @@ module _ (w : Writer) (last : Bool) (found : Found) (cid : ℕ) (content : Conte
   unfolding writing
   took-back room is = go channel refl (entered_on room w last cid channel (fit_of m)) refl is
     where
-      go : (c : Channel) → channel ≡ c
-          → (e : Entered) → entered_on room w last cid c (fit_of m) ≡ e
+      go : (c : Result Channel Refusal) → channel ≡ c
+          → (e : Result Place Refusal) → entered_on room w last cid c (fit_of m) ≡ e
           → taken e (sub_frame cid last c m) ≡ writes octets next
           → Took w last found cid content octets next × (next.at ≤ room)
-      go c takes (NoPlace n) there is = refused-not n octets next is
-      go (TakesNot n) takes (Place start len to) there is = never n start len to there
-      go (Takes r ptype) takes (Place start len to) there is =
+      go c takes (Err n) there is = refused-not n octets next is
+      go (Err n) takes (Ok place) there is = never n place.start place.len place.next there
+      go (Ok on) takes (Ok place) there is =
+          let r = on.rec in
+          let ptype = on.ptype in
+          let start = place.start in
+          let len = place.len in
           let same = same_writes _ _ _ _ is in
-          let entry = entered-back room w last cid ptype m start len next (there ∙ ap (Place start len) same.1) in
+          let entry = entered-back room w last cid ptype m start len next (there ∙ ap (place_at start len) same.1) in
           let known = taking w found cid (kind_of content) r ptype takes in
           let ends : next.at ≡ start + length entry.payload = ap (λ (v : Writer). v.at) entry.place.goes_on in (
             record {
@@ -81,7 +85,7 @@ module _ (w : Writer) (last : Bool) (found : Found) (cid : ℕ) (content : Conte
               free = known.free;
               typed = known.typed;
               makes = entry.makes;
-              are = sym same.0 ∙ ap (sub_frame cid last (Takes r ptype)) entry.makes;
+              are = sym same.0 ∙ ap (sub_frame cid last (takes_as r ptype)) entry.makes;
               goes_on =
                   entry.place.goes_on
                   ∙ ap (λ (n : ℕ). record { at = n + length entry.payload; count = w.count + 1; done = last }) entry.place.starts;
@@ -107,28 +111,28 @@ module _ (w : Writer) (last : Bool) (found : Found) (cid : ℕ) (content : Conte
     not_full =
         simp (le-ltb most_sub_frames (w.count + 1) took.few, le-ltb most_octets (w.at + size + len) (rw ends at took.within))
 
-    provisioned : (r : Record) × (found ≡ Provisioned r)
+    provisioned : (r : Record) × (found ≡ Some r)
     provisioned = go found refl
       where
-        go : (f : Found) → found ≡ f → (r : Record) × (found ≡ Provisioned r)
-        go (Provisioned r) is = (r, is)
-        go Unprovisioned is = untyped _ _ (sym (ap (λ (f : Found). type_for f (kind_of content)) is) ∙ took.typed)
+        go : (f : Option Record) → found ≡ f → (r : Record) × (found ≡ Some r)
+        go (Some r) is = (r, is)
+        go None is = untyped _ _ (sym (ap (λ (f : Option Record). type_for f (kind_of content)) is) ∙ took.typed)
 
-    decides : (e : Entered) → e ≡ placed room w last cid took.ptype len → writing room w last found cid content ≡ taken e octets
+    decides : (e : Result Place Refusal) → e ≡ placed room w last cid took.ptype len → writing room w last found cid content ≡ taken e octets
     unfolding writing
     decides e placing =
         let r = provisioned.0 in
         let is = provisioned.1 in
-        let takes : channel ≡ Takes r took.ptype =
+        let takes : channel ≡ takes_as r took.ptype =
         sym (by-record w found cid (kind_of content) took.going took.free)
-        ∙ ap (λ (f : Found). on_channel f (kind_of content)) is
-        ∙ ap (typed_on r) (sym (ap (λ (f : Found). type_for f (kind_of content)) is) ∙ took.typed)
+        ∙ ap (λ (f : Option Record). on_channel f (kind_of content)) is
+        ∙ ap (typed_on r) (sym (ap (λ (f : Option Record). type_for f (kind_of content)) is) ∙ took.typed)
         in
-        ap (λ (c : Channel). taken (entered_on room w last cid c (fit_of m)) (sub_frame cid last c m)) takes
-        ∙ ap (λ (x : Made). taken (entered room w last cid took.ptype (fit_of x)) (sub_frame cid last (Takes r took.ptype) x)) took.makes
+        ap (λ (c : Result Channel Refusal). taken (entered_on room w last cid c (fit_of m)) (sub_frame cid last c m)) takes
+        ∙ ap (λ (x : Made). taken (entered room w last cid took.ptype (fit_of x)) (sub_frame cid last (takes_as r took.ptype) x)) took.makes
         ∙ ap₂ taken (sym placing) (sym took.are)
 
-    pub too_small : room < next.at → writing room w last found cid content ≡ refuses room_too_small
+    pub too_small : room < next.at → writing room w last found cid content ≡ refuses RoomTooSmall
     too_small h = decides _ (small room w last cid took.ptype len took.short refl not_full (rw ends at h))
 
     pub large-enough : next.at ≤ room → writing room w last found cid content ≡ writes octets next

@@ -6,40 +6,37 @@ use mathlib.Core.List.{List}
 use mathlib.Core.Bool.{Bool}
 use native.Mathlib.Omega.{arith}
 use lib.ListN.{length}
-use Rattle.octets.specs.declared.Fit.{Fit}
-use Rattle.octets.specs.declared.Put.{Put}
 use Rattle.octets.specs.Made.{Made, fit_of, left_made}
 use Rattle.octets.specs.Room.{written, left_by}
 use Rattle.octets.proofs.Writes.{as_long, room_for}
 use Rattle.record.specs.declared.syntax.Record.{Record}
-use Rattle.record.specs.declared.table.Found.{Found}
-use Rattle.record.specs.declared.table.Found.TheVariants.{Provisioned}
 use Rattle.joining.specs.Joining.{header_size, shortest_header, header_put}
 use Rattle.joining.proofs.HeaderWritten as header
-use Rattle.payload.specs.declared.layout.TypeFor.{TypeFor}
-use Rattle.payload.specs.declared.layout.TypeFor.TheVariants.{Typed}
 use Rattle.payload.specs.Layout.{type_for}
 use Rattle.payload.specs.Content.{Content, kind_of, made_on, made_as, payload_made}
 use Rattle.place.specs.declared.Writer.{Writer}
 use Rattle.place.specs.declared.Channel.{Channel}
-use Rattle.place.specs.declared.Channel.TheVariants.{Takes, TakesNot}
-use Rattle.place.specs.declared.Entered.{Entered}
-use Rattle.place.specs.declared.Entered.TheVariants.{Place, NoPlace}
-use Rattle.place.specs.Place.{channel_for, entered}
+use Rattle.place.specs.declared.Place.{Place}
+use Rattle.place.specs.Place.{channel_for, entered, takes_as, place_at}
 use Rattle.writer.specs.Writer.{entered_on, Writing, writes, refuses, sub_frame, taken, writing, left_writing}
 use Rattle.place.proofs.ChannelCases.{small-typed, Taking, taking}
 use Rattle.place.proofs.EnterCases.{entered-back, octet-of, before}
+use Rattle.refusal.specs.declared.Refusal.{Refusal}
+use Rattle.std.specs.declared.option.Option.{Option}
+use Rattle.std.specs.declared.result.Result.{Result}
+use Rattle.std.specs.declared.option.Option.TheVariants.{Some}
+use Rattle.std.specs.declared.result.Result.TheVariants.{Ok, Err}
 
-made-on : (found : Found) (content : Content) (r : Record) (ptype : ℕ)
-    → found ≡ Provisioned r
-    → type_for found (kind_of content) ≡ Typed ptype
+made-on : (found : Option Record) (content : Content) (r : Record) (ptype : ℕ)
+    → found ≡ Some r
+    → type_for found (kind_of content) ≡ Ok ptype
     → payload_made found content ≡ made_on r content
 made-on found content r ptype is typed =
-    ap (λ (t : TypeFor). made_as t found content) typed ∙ ap (λ (f : Found). made_as (Typed ptype) f content) is
+    ap (λ (t : Result ℕ Refusal). made_as t found content) typed ∙ ap (λ (f : Option Record). made_as (Ok ptype) f content) is
 
 -- An answer of type B is made of what the writer does. What the lent frame holds then stands beside it.
-module _ {B : Type 0} (answer : Writing → B) (room : List ℕ) (w : Writer) (last : Bool) (found : Found) (cid : ℕ) (content : Content)
-    {channel : Channel} (told : channel ≡ channel_for w found cid (kind_of content)) where
+module _ {B : Type 0} (answer : Writing → B) (room : List ℕ) (w : Writer) (last : Bool) (found : Option Record) (cid : ℕ) (content : Content)
+    {channel : Result Channel Refusal} (told : channel ≡ channel_for w found cid (kind_of content)) where
   abbrev does : Writing
   does = writing (length room) w last found cid content
 
@@ -52,15 +49,15 @@ module _ {B : Type 0} (answer : Writing → B) (room : List ℕ) (w : Writer) (l
   abbrev m : Made
   m = payload_made found content
 
-  by-channel : (c : Channel) → channel ≡ c → taken (entered_on (length room) w last cid c (fit_of m)) (sub_frame cid last c m) ≡ does
+  by-channel : (c : Result Channel Refusal) → channel ≡ c → taken (entered_on (length room) w last cid c (fit_of m)) (sub_frame cid last c m) ≡ does
   unfolding writing
   by-channel c is =
-      ap (λ (x : Channel). taken (entered_on (length room) w last cid x (fit_of m)) (sub_frame cid last x m)) (sym is ∙ told)
+      ap (λ (x : Result Channel Refusal). taken (entered_on (length room) w last cid x (fit_of m)) (sub_frame cid last x m)) (sym is ∙ told)
 
-  pub not_taken : {number : ℕ} → channel ≡ TakesNot number → Answers (refuses number) room
+  pub not_taken : {refusal : Refusal} → channel ≡ Err refusal → Answers (refuses refusal) room
   not_taken is = answers _ room (by-channel _ is) refl
 
-  module _ {r : Record} {ptype : ℕ} (takes : channel ≡ Takes r ptype) {fit : Fit} (fits : fit ≡ fit_of (made_on r content)) {e : Entered}
+  module _ {r : Record} {ptype : ℕ} (takes : channel ≡ takes_as r ptype) {fit : Result ℕ Refusal} (fits : fit ≡ fit_of (made_on r content)) {e : Result Place Refusal}
       (enters : e ≡ entered (length room) w last cid ptype fit) where
     known : Taking w found cid (kind_of content) r ptype
     known = taking w found cid (kind_of content) r ptype (sym told ∙ takes)
@@ -72,17 +69,17 @@ module _ {B : Type 0} (answer : Writing → B) (room : List ℕ) (w : Writer) (l
     as-entered = enters ∙ ap (entered (length room) w last cid ptype) (fits ∙ ap fit_of (sym made_is))
 
     abbrev octets : List ℕ
-    octets = sub_frame cid last (Takes r ptype) m
+    octets = sub_frame cid last (takes_as r ptype) m
 
-    by_place : (given : Entered) → e ≡ given → taken given octets ≡ does
-    by_place given is = ap (λ (x : Entered). taken x octets) (sym is ∙ as-entered) ∙ by-channel (Takes r ptype) takes
+    by_place : (given : Result Place Refusal) → e ≡ given → taken given octets ≡ does
+    by_place given is = ap (λ (x : Result Place Refusal). taken x octets) (sym is ∙ as-entered) ∙ by-channel (takes_as r ptype) takes
 
-    pub refused : {number : ℕ} → e ≡ NoPlace number → Answers (refuses number) room
+    pub refused : {refusal : Refusal} → e ≡ Err refusal → Answers (refuses refusal) room
     refused is = answers _ room (by_place _ is) refl
 
     -- the payload, and the header before it
-    stands : (start len : ℕ) (next : Writer) (part final : List ℕ) (put : Put)
-        → e ≡ Place start len next
+    stands : (start len : ℕ) (next : Writer) (part final : List ℕ) (put : Result ℕ Refusal)
+        → e ≡ place_at start len next
         → part ≡ left_made room start (made_on r content)
         → put ≡ header_put (length part - w.at) w.at cid ptype last
         → final ≡ left_by put part w.at (shortest_header cid ptype last (len % 256))
@@ -98,12 +95,12 @@ module _ {B : Type 0} (answer : Writing → B) (room : List ℕ) (w : Writer) (l
         let first : part ≡ written room start payload =
         laid
         ∙ ap (left_made room start) (sym made_is ∙ entry.makes)
-        ∙ ap (λ (p : Put). left_by p room start payload) (sym (room_for room payload start inside))
+        ∙ ap (λ (p : Result ℕ Refusal). left_by p room start payload) (sym (room_for room payload start inside))
         in
         let long : length part ≡ length room = as_long room payload part start inside first in
         let led : final ≡ written part w.at head =
         leaves
-        ∙ ap (λ (p : Put). left_by p part w.at (shortest_header cid ptype last (len % 256)))
+        ∙ ap (λ (p : Result ℕ Refusal). left_by p part w.at (shortest_header cid ptype last (len % 256)))
         (answered ∙ sym (header.taken (length part - w.at) w.at cid ptype last known.free (omega arith) (omega arith)))
         ∙ ap (λ (n : ℕ). written part w.at (shortest_header cid ptype last (n % 256))) (sym entry.many)
         ∙ ap (written part w.at) (octet-of cid ptype last (length payload) entry.place.short)
@@ -112,10 +109,10 @@ module _ {B : Type 0} (answer : Writing → B) (room : List ℕ) (w : Writer) (l
         ∙ ap (λ (l : List ℕ). written l w.at head) first
         ∙ ap (λ (n : ℕ). written (written room n payload) w.at head) begins
         ∙ before room head payload w.at (omega arith)
-        ∙ ap (λ (x : Made). written room w.at (sub_frame cid last (Takes r ptype) x)) (sym entry.makes)
+        ∙ ap (λ (x : Made). written room w.at (sub_frame cid last (takes_as r ptype) x)) (sym entry.makes)
 
-    pub wrote : {start len : ℕ} {next : Writer} {part final : List ℕ} {put : Put}
-        → e ≡ Place start len next
+    pub wrote : {start len : ℕ} {next : Writer} {part final : List ℕ} {put : Result ℕ Refusal}
+        → e ≡ place_at start len next
         → part ≡ left_made room start (made_on r content)
         → put ≡ header_put (length part - w.at) w.at cid ptype last
         → final ≡ left_by put part w.at (shortest_header cid ptype last (len % 256))

@@ -1,21 +1,21 @@
 -- The writer's refusals at their borders, one line a case (document 01, "Refusal numbers"). Proved in proofs/Examples.antt.
-use Rattle.std.specs.Prelude.{ℕ, ◌≡◌, List, [], ◌∷◌, map, Bool, true, false, replicate}
+use Rattle.std.specs.Prelude.{ℕ, ◌≡◌, List, [], ◌∷◌, map, Bool, true, false, replicate, Option, Some, None}
+use Rattle.refusal.specs.Numbers.{number}
 use Rattle.record.specs.declared.syntax.Syntax.TheVariants.{Acelp, Pcm, Data}
-use Rattle.record.specs.declared.table.Found.{Found}
-use Rattle.record.specs.declared.table.Found.TheVariants.{Provisioned, Unprovisioned}
 use Rattle.payload.specs.Content.{Content, speech, fragment}
 use Rattle.place.specs.declared.Writer.{Writer}
 use Rattle.place.specs.Place.{fresh_writer}
 use Rattle.writer.specs.Writer.{Writing, writes, refuses, writing}
+use Rattle.record.specs.declared.syntax.Record.{Record}
 
-abbrev pub acelp : Found
-acelp = Provisioned (record { syntax = Acelp; m = 1; seq = false })
+abbrev pub acelp : Option Record
+acelp = Some (record { syntax = Acelp; m = 1; seq = false })
 
-abbrev pub pcm : Found
-pcm = Provisioned (record { syntax = Pcm; m = 12; seq = true })
+abbrev pub pcm : Option Record
+pcm = Some (record { syntax = Pcm; m = 12; seq = true })
 
-abbrev pub alarms : Found
-alarms = Provisioned (record { syntax = Data; m = 1; seq = false })
+abbrev pub alarms : Option Record
+alarms = Some (record { syntax = Data; m = 1; seq = false })
 
 -- pcm of coding type 0, twelve blocks: 481 octets (bench example 14)
 abbrev pub twelve : Content
@@ -32,26 +32,26 @@ pub record Case : Type 0 where
   pub room : ℕ
   pub writer : Writer
   pub last : Bool
-  pub found : Found
+  pub found : Option Record
   pub cid : ℕ
   pub content : Content
 
-abbrev pub number : Writing → ℕ
-number (writes octets next) = 0
-number (refuses refusal) = refusal
+abbrev pub number_of : Writing → ℕ
+number_of (writes octets next) = 0
+number_of (refuses refusal) = number refusal
 
 abbrev pub told : Case → ℕ
-told c = number (writing c.room c.writer c.last c.found c.cid c.content)
+told c = number_of (writing c.room c.writer c.last c.found c.cid c.content)
 
-abbrev pub case : ℕ → Writer → Bool → Found → ℕ → Content → Case
+abbrev pub case : ℕ → Writer → Bool → Option Record → ℕ → Content → Case
 case room writer last found cid content = record { room = room; writer = writer; last = last; found = found; cid = cid; content = content }
 
 unfoldable pub cases : List Case
 cases =
     -- 24, then 4, then 11, then 12, then 16
-    case 0 (standing 0 0 true) true Unprovisioned 3 twelve
-    ∷ case 0 fresh_writer true Unprovisioned 3 twelve
-    ∷ case 0 fresh_writer true Unprovisioned 9 twelve
+    case 0 (standing 0 0 true) true None 3 twelve
+    ∷ case 0 fresh_writer true None 3 twelve
+    ∷ case 0 fresh_writer true None 9 twelve
     ∷ case 0 fresh_writer true acelp 9 (octets 1)
     ∷ case 0 fresh_writer true pcm 9 (speech (record { 0 = 0 }) 14 [])
     -- 22, then 23, then 21

@@ -2,36 +2,30 @@
 use mathlib.Core.Path.{◌≡◌, sym, ◌∙◌}
 use mathlib.Core.Bool.{false}
 use native.Mathlib.Omega.{arith}
-use borrow.Author.Tests.{ltb-false, not-true, not-false}
+use borrow.Author.Tests.{ltb-false}
 use lib.Dec.{ltb}
-use Rattle.fax.specs.declared.Stamp.TheVariants.{NoStamp}
 use Rattle.fax.specs.Fax.{code_in}
 use Rattle.fax.proofs.FaxCases as cases
 use Rattle.fax.proofs.read_bare.Goals as goal
-use Rattle.fax.proofs.read_bare.Goals.{After-plain_command-command, Else-needs_stamp}
+use Rattle.fax.proofs.read_bare.Goals.{After-plain_command-command}
+use Rattle.std.specs.declared.option.Option.TheVariants.{None}
 
-stampless : (c : Else-needs_stamp) → ltb (code_in c.args.payload.now) 2 ≡ false
+stampless : (c : After-plain_command-command) → ltb (code_in c.args.payload.now) 2 ≡ false
 stampless c = sym c.needs_stamp.ensures ∙ c.if-needs_stamp.false
 
-other : (c : Else-needs_stamp) → code_in c.args.payload.now ≡ 1 → ⊥
+other : (c : After-plain_command-command) → code_in c.args.payload.now ≡ 1 → ⊥
 other c e = omega (arith, ltb-false (code_in c.args.payload.now) 2 (stampless c))
 
-stampless-at-After-plain_command-command : (c : After-plain_command-command) → ltb (code_in c.args.payload.now) 2 ≡ false
-stampless-at-After-plain_command-command c = sym c.needs_stamp.ensures ∙ c.if-needs_stamp.false
-
-other-at-After-plain_command-command : (c : After-plain_command-command) → code_in c.args.payload.now ≡ 1 → ⊥
-other-at-After-plain_command-command c e = omega (arith, ltb-false (code_in c.args.payload.now) 2 (stampless-at-After-plain_command-command c))
-
-front : (c : After-plain_command-command) → cases.Fronted c.args.payload.now NoStamp c.plain_command-command.result 1
+front : (c : After-plain_command-command) → cases.Fronted c.args.payload.now None c.plain_command-command.result 1
 front c =
-    cases.bare-fronted _ c.requires.0 c.requires.1 (other-at-After-plain_command-command c) _ c.plain_command-command.ensures c.requires.2 (stampless-at-After-plain_command-command c)
+    cases.bare-fronted _ c.requires.0 c.requires.1 (other c) _ c.plain_command-command.ensures c.requires.2 (stampless c)
 
 pub returns-then-needs_stamp : goal.returns-then-needs_stamp
 returns-then-needs_stamp c = sym (cases.lacks _ c.requires.0 c.requires.1 c.requires.2 (sym c.needs_stamp.ensures ∙ c.if-needs_stamp.true))
 
 pub returns-then-not-body_fits : goal.returns-then-not-body_fits
-returns-then-not-body_fits c = sym (cases.wrong (front (goal.at.returns-then-not-body_fits c).After-plain_command-command) c.requires.0 (sym c.body_fits.ensures ∙ not-true _ c.if-not-body_fits.true-raw))
+returns-then-not-body_fits c = sym (cases.wrong (front (goal.at.returns-then-not-body_fits c).After-plain_command-command) c.requires.0 (sym c.body_fits.ensures ∙ c.if-not-body_fits.true))
 
 pub returns : goal.returns
 returns c = sym
-    (cases.plain-right _ c.requires.0 c.requires.1 (other (goal.at.returns c).Else-needs_stamp) _ c.plain_command-command.ensures (front (goal.at.returns c).After-plain_command-command) c.requires.0 (sym c.body_fits.ensures ∙ not-false _ c.if-not-body_fits.false-raw) (rw c.requires.2))
+    (cases.plain-right _ c.requires.0 c.requires.1 (other (goal.at.returns c).After-plain_command-command) _ c.plain_command-command.ensures (front (goal.at.returns c).After-plain_command-command) c.requires.0 (sym c.body_fits.ensures ∙ c.if-not-body_fits.false) (rw c.requires.2))

@@ -1,74 +1,26 @@
--- `frame::check` meets its contract: it hands on what the scan tells, and of a refused one its number and place.
-use Prim.Native.Nat.{ℕ}
-use mathlib.Core.Path.{◌≡◌, sym, ap, ◌∙◌}
-use mathlib.Core.List.{List}
-use native.Mathlib.Omega.{arith}
-use lib.ListN.{length}
-use Rattle.frame.specs.declared.Checked.{Checked}
-use Rattle.frame.specs.Opening.{scanned, opening, checked}
+-- `frame::check` meets its contract: it hands on what the scan tells, and of a refused one its refusal and place.
+use mathlib.Core.Path.{sym, ◌∙◌}
+use Rattle.std.specs.declared.result.Result.{Result}
+use Rattle.std.specs.declared.result.Result.TheVariants.{Ok, Err}
+use Rattle.std.specs.Result.{IsErrAnd}
+use Rattle.std.proofs.Common.{rules}
+use Rattle.std.proofs.lemmas.Bool.{eqb-true, eqb-false}
+use Rattle.std.proofs.lemmas.Result.{MatchResult-weaker}
 use Rattle.frame.proofs.OpeningTurns as turns
 use Rattle.frame.proofs.check.Goals as goal
-use Rattle.frame.proofs.check.Goals.{After-scan_from-found}
 
--- an answer in its three numbers
-parts :
-    (r : Checked) (s : List ℕ)
-    → r ≡ checked (opening s)
-    → (r.number ≡ (opening s).number) × ((r.at ≡ (opening s).at) × (r.count ≡ length (opening s).subs))
-parts r s e = (ap (λ (c : Checked). c.number) e, (ap (λ (c : Checked). c.at) e, ap (λ (c : Checked). c.count) e))
+pub returns-then-is_empty : goal.returns-then-is_empty
+returns-then-is_empty c = turns.empty-checked _ (eqb-true _ _ (sym c.is_empty.ensures ∙ c.if-is_empty.true))
 
--- the scan is what was checked
-scanned-is : (c : After-scan_from-found) → c.scan_from-found.result ≡ checked (scanned c.args.frame.now)
-scanned-is c =
-    c.scan_from-found.ensures ∙ ap checked (sym (turns.fits-scans _ (sym c.field_fits.ensures ∙ c.if-field_fits.true)))
+pub returns-then-not-field_fits : goal.returns-then-not-field_fits
+returns-then-not-field_fits c =
+    turns.unfit-checked _ (eqb-false _ _ (sym c.is_empty.ensures ∙ c.if-is_empty.false)) (sym c.field_fits.ensures ∙ c.if-not-field_fits.true)
 
-pub returns-then-frame-eq0-clause-number : goal.returns-then-frame-eq0-clause-number
-returns-then-frame-eq0-clause-number c = let both = let e = ap checked (sym (turns.empty c.args.frame.now c.if-frame-eq0.true)) in
-    parts _ _ (c.refused.ensures ∙ ap checked (turns.refused-opens _ _ e (λ z. omega (arith, z)))) in both.0
+err-weaker : {T E : Type 0} (r : Result T E) (P Q : E → Type 0) → ((e : E) → P e → Q e) → IsErrAnd r P → IsErrAnd r Q
+err-weaker (Ok x) P Q f h = h
+err-weaker (Err e) P Q f h = f e h
 
-pub returns-then-frame-eq0-clause-at : goal.returns-then-frame-eq0-clause-at
-returns-then-frame-eq0-clause-at c = let both = let e = ap checked (sym (turns.empty c.args.frame.now c.if-frame-eq0.true)) in
-    parts _ _ (c.refused.ensures ∙ ap checked (turns.refused-opens _ _ e (λ z. omega (arith, z)))) in both.1.0
-
-pub returns-then-frame-eq0-clause-count : goal.returns-then-frame-eq0-clause-count
-returns-then-frame-eq0-clause-count c = let both = let e = ap checked (sym (turns.empty c.args.frame.now c.if-frame-eq0.true)) in
-    parts _ _ (c.refused.ensures ∙ ap checked (turns.refused-opens _ _ e (λ z. omega (arith, z)))) in both.1.1
-
-pub returns-then-found-eq-SOUND-clause-number : goal.returns-then-found-eq-SOUND-clause-number
-returns-then-found-eq-SOUND-clause-number c = let both = let e = scanned-is (goal.at.returns-then-found-eq-SOUND-clause-number c).After-scan_from-found in
-    parts _ _ (e ∙ ap checked (sym (turns.sound-is _ (sym (ap (λ (r : Checked). r.number) e) ∙ c.if-found-eq-SOUND.true)))) in both.0
-
-pub returns-then-found-eq-SOUND-clause-at : goal.returns-then-found-eq-SOUND-clause-at
-returns-then-found-eq-SOUND-clause-at c = let both = let e = scanned-is (goal.at.returns-then-found-eq-SOUND-clause-at c).After-scan_from-found in
-    parts _ _ (e ∙ ap checked (sym (turns.sound-is _ (sym (ap (λ (r : Checked). r.number) e) ∙ c.if-found-eq-SOUND.true)))) in both.1.0
-
-pub returns-then-found-eq-SOUND-clause-count : goal.returns-then-found-eq-SOUND-clause-count
-returns-then-found-eq-SOUND-clause-count c = let both = let e = scanned-is (goal.at.returns-then-found-eq-SOUND-clause-count c).After-scan_from-found in
-    parts _ _ (e ∙ ap checked (sym (turns.sound-is _ (sym (ap (λ (r : Checked). r.number) e) ∙ c.if-found-eq-SOUND.true)))) in both.1.1
-
-pub returns-then-field_fits-clause-number : goal.returns-then-field_fits-clause-number
-returns-then-field_fits-clause-number c = let both = parts _ _
-    (c.refused-then-field_fits.ensures ∙ ap checked (turns.refused-opens _ _ (scanned-is (goal.at.returns-then-field_fits-clause-number c).After-scan_from-found) c.if-found-eq-SOUND.false)) in both.0
-
-pub returns-then-field_fits-clause-at : goal.returns-then-field_fits-clause-at
-returns-then-field_fits-clause-at c = let both = parts _ _
-    (c.refused-then-field_fits.ensures ∙ ap checked (turns.refused-opens _ _ (scanned-is (goal.at.returns-then-field_fits-clause-at c).After-scan_from-found) c.if-found-eq-SOUND.false)) in both.1.0
-
-pub returns-then-field_fits-clause-count : goal.returns-then-field_fits-clause-count
-returns-then-field_fits-clause-count c = let both = parts _ _
-    (c.refused-then-field_fits.ensures ∙ ap checked (turns.refused-opens _ _ (scanned-is (goal.at.returns-then-field_fits-clause-count c).After-scan_from-found) c.if-found-eq-SOUND.false)) in both.1.1
-
-pub returns-clause-number : goal.returns-clause-number
-returns-clause-number c = let both = let unfit = sym c.field_fits.ensures ∙ c.if-field_fits.false in
-    let e = ap checked (sym (turns.long c.args.frame.now c.if-frame-eq0.false (turns.unfit-long c.args.frame.now unfit c.if-frame-eq0.false))) in
-    parts _ _ (c.refused-2.ensures ∙ ap checked (turns.refused-opens _ _ e (λ z. omega (arith, z)))) in both.0
-
-pub returns-clause-at : goal.returns-clause-at
-returns-clause-at c = let both = let unfit = sym c.field_fits.ensures ∙ c.if-field_fits.false in
-    let e = ap checked (sym (turns.long c.args.frame.now c.if-frame-eq0.false (turns.unfit-long c.args.frame.now unfit c.if-frame-eq0.false))) in
-    parts _ _ (c.refused-2.ensures ∙ ap checked (turns.refused-opens _ _ e (λ z. omega (arith, z)))) in both.1.0
-
-pub returns-clause-count : goal.returns-clause-count
-returns-clause-count c = let both = let unfit = sym c.field_fits.ensures ∙ c.if-field_fits.false in
-    let e = ap checked (sym (turns.long c.args.frame.now c.if-frame-eq0.false (turns.unfit-long c.args.frame.now unfit c.if-frame-eq0.false))) in
-    parts _ _ (c.refused-2.ensures ∙ ap checked (turns.refused-opens _ _ e (λ z. omega (arith, z)))) in both.1.1
+pub returns : goal.returns
+returns c =
+    turns.fit-checked _ (sym c.field_fits.ensures ∙ c.if-not-field_fits.false) _ _ c.scan_from.ensures
+    (MatchResult-weaker c.scan_from.result c.map_err.ensures.cases (λ x h. h) (λ e h. err-weaker c.map_err.result _ _ (λ y k. search rules) h))

@@ -1,8 +1,10 @@
 -- `header::header_at` meets its contract: at each return the tests that led there say which case of `told` holds.
-use mathlib.Core.Path.{sym, ◌∙◌}
+use mathlib.Core.Path.{sym, ap, ◌∙◌}
 use Prim.Native.Nat.{◌≤◌}
 use lib.ListN.{length}
 use native.Mathlib.Omega.{arith}
+use Rattle.std.specs.declared.result.Result.TheVariants.{Err}
+use Rattle.std.proofs.lemmas.Result.{err_from_is_err_and}
 use Rattle.header.proofs.HeaderCases as cases
 use Rattle.header.proofs.HeaderRead as header
 use Rattle.header.proofs.header_at.Goals as goal
@@ -36,28 +38,35 @@ pub returns-then-frame-next : goal.returns-then-frame-next
 returns-then-frame-next c = let a = c.args in
     header.no-1a a.frame.now a.at c.if-octet1-gt127.true c.if-frame-at.false c.if-frame-next.true
 
+pub returns-in_err-unless_reserved : goal.returns-in_err-unless_reserved
+returns-in_err-unless_reserved c = let d = (goal.at.returns-in_err-unless_reserved c).After-cid_of-cid in
+    let p = err_from_is_err_and c.from_residual.result c.from_residual.ensures.1 in
+    p.1 ∙ ap Err p.2
+    ∙ header.last-refused (begun d) (within d) c.if-octet1-eq0.true _ (sym c.unless_reserved.ensures ∙ c.in_err-unless_reserved.was)
+
 pub returns-then-octet1-eq0 : goal.returns-then-octet1-eq0
-returns-then-octet1-eq0 c = let d = c.before in
-    c.unless_reserved.ensures ∙ header.last_one (begun (goal.at.returns-then-octet1-eq0 c).After-cid_of-cid) (within (goal.at.returns-then-octet1-eq0 c).After-cid_of-cid) c.if-octet1-eq0.true
+returns-then-octet1-eq0 c = let d = (goal.at.returns-then-octet1-eq0 c).After-cid_of-cid in
+    header.last_one (begun d) (within d) c.if-octet1-eq0.true _ (sym c.unless_reserved.ensures ∙ c.in_ok-unless_reserved.was)
 
 pub returns-then-left-eq0 : goal.returns-then-left-eq0
-returns-then-left-eq0 c = let d = c.before in
-    header.cut (begun (goal.at.returns-then-left-eq0 c).After-cid_of-cid) c.if-octet1-eq0.false c.if-left-eq0.true
+returns-then-left-eq0 c = let d = (goal.at.returns-then-left-eq0 c).After-cid_of-cid in
+    header.cut (begun d) c.if-octet1-eq0.false c.if-left-eq0.true
+
+pub returns-in_err-sub : goal.returns-in_err-sub
+returns-in_err-sub c = let d = (goal.at.returns-in_err-sub c).After-cid_of-cid in
+    let p = err_from_is_err_and c.from_residual-in_err-sub.result c.from_residual-in_err-sub.ensures.1 in
+    p.1 ∙ ap Err p.2
+    ∙ header.more-refused (begun d) c.if-octet1-eq0.false c.if-left-eq0.false _ (sym c.unless_reserved-2.ensures ∙ c.in_err-sub.was)
 
 pub returns-then-len-rest : goal.returns-then-len-rest
-returns-then-len-rest c = let e = c.before in
-    let d = e.before in
-    c.unless_reserved-then-len-rest.ensures
-    ∙ header.another (begun (goal.at.returns-then-len-rest c).After-cid_of-cid) e.if-octet1-eq0.false e.if-left-eq0.false c.if-len-rest.true
+returns-then-len-rest c = let d = (goal.at.returns-then-len-rest c).After-cid_of-cid in
+    header.another (begun d) c.if-octet1-eq0.false c.if-left-eq0.false _ (sym c.unless_reserved-2.ensures ∙ c.in_ok-sub.was) c.if-len-rest.true
 
 pub returns-then-rest-len : goal.returns-then-rest-len
-returns-then-rest-len c = let e = c.before in
-    let d = e.before in
-    c.unless_reserved-then-rest-len.ensures
-    ∙ header.past (begun (goal.at.returns-then-rest-len c).After-cid_of-cid) e.if-octet1-eq0.false e.if-left-eq0.false c.if-rest-len.true
+returns-then-rest-len c = let d = (goal.at.returns-then-rest-len c).After-cid_of-cid in
+    header.past (begun d) c.if-octet1-eq0.false c.if-left-eq0.false _ (sym c.unless_reserved-2.ensures ∙ c.in_ok-sub.was) c.if-rest-len.true
 
 pub returns : goal.returns
-returns c = let e = c.before in
-    let d = e.before in
-    c.unless_reserved-2.ensures
-    ∙ header.ends (begun (goal.at.returns c).After-cid_of-cid) e.if-octet1-eq0.false e.if-left-eq0.false c.if-rest-len.false c.if-len-rest.false
+returns c = let d = (goal.at.returns c).After-cid_of-cid in
+    header.ends (begun d) c.if-octet1-eq0.false c.if-left-eq0.false _ (sym c.unless_reserved-2.ensures ∙ c.in_ok-sub.was) c.if-rest-len.false
+    c.if-len-rest.false

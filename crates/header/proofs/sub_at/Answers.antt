@@ -1,5 +1,5 @@
 -- `header::sub_at` meets its contract.
-use mathlib.Core.Path.{refl, ◌∙◌}
+use mathlib.Core.Path.{◌∙◌}
 use native.Mathlib.Omega.{arith}
 use Rattle.header.proofs.HeaderRead as header
 use Rattle.header.proofs.sub_at.Goals as goal
@@ -23,11 +23,8 @@ begun c =
 pub returns-then-frame-at : goal.returns-then-frame-at
 returns-then-frame-at c = let a = c.args in header.none-there a.frame.now a.at c.if-frame-at.true
 
-pub returns-then-next-frame : goal.returns-then-next-frame
-returns-then-next-frame c = header.at_last (begun (goal.at.returns-then-next-frame c).After-cid_of-cid) c.if-octet1-eq0.true refl
-
-pub returns-else-next-frame : goal.returns-else-next-frame
-returns-else-next-frame c = header.at_last (begun (goal.at.returns-else-next-frame c).After-cid_of-cid) c.if-octet1-eq0.true (omega (arith, c.if-next-frame.false))
+pub returns-then-octet1-eq0 : goal.returns-then-octet1-eq0
+returns-then-octet1-eq0 c = header.at_last (begun (goal.at.returns-then-octet1-eq0 c).After-cid_of-cid) c.if-octet1-eq0.true c.saturating_sub.ensures
 
 pub returns : goal.returns
 returns c = header.at_more (begun (goal.at.returns c).After-cid_of-cid) c.if-octet1-eq0.false (c.wide.ensures ∙ c.octet.ensures)

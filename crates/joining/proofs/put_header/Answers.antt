@@ -1,95 +1,58 @@
 -- `joining::put_header` meets its contract: the tests say which refusal or which of the header's four shapes is due, and each
 -- shape's octets fit the room.
-use mathlib.Core.Path.{◌≡◌}
-use mathlib.Core.List.{List, [], ◌∷◌}
-use Prim.Native.Nat.{ℕ, ◌+◌, ◌*◌, ◌/◌, ◌%◌}
+use mathlib.Core.List.{[], ◌∷◌}
+use Prim.Native.Nat.{◌+◌, ◌*◌, ◌/◌, ◌%◌}
 use native.Mathlib.Numerals.{add-one, add-two}
 use native.Mathlib.Omega.{arith}
 use lib.ListN.{length-set}
-use Rattle.joining.specs.Joining.{shortest_header}
 use Rattle.joining.proofs.HeaderWritten as header
 use Rattle.joining.proofs.put_header.Goals as goal
 use Rattle.joining.proofs.put_header.Goals.{Else-last, Else-last-2, Then-last, Then-last-2}
 
--- past the tests the header fits what is left of the room, whichever octets it has
-fitting-at-Then-last :
-    (c : Then-last)
-    → let a = c.args in
-    (octets : List ℕ)
-    → shortest_header a.cid a.ptype a.last a.len ≡ octets
-    → header.Stored a.room.now octets a.at a.cid a.ptype a.last a.len
-fitting-at-Then-last c =
-    let a = c.args in
-    header.stored a.room.now a.at a.cid a.ptype a.last a.len c.if-cid-lt4.false
-    c.if-ptype-gt15.false
-    c.if-room-at.false
-    (rw c.header_size.ensures at c.if-room-at-2.false)
-
+-- past the tests the header fits what is left of the room: its four shapes
 one :
     (c : Then-last)
     → let a = c.args in
     header.Stored a.room.now ((a.cid % 64) ∷ []) a.at a.cid a.ptype a.last a.len
-one c = fitting-at-Then-last c _ (header.alone _ _ _ _ c.if-octet1a-eq0.true c.if-last.true)
-
--- past the tests the header fits what is left of the room, whichever octets it has
-fitting-at-Else-last :
-    (c : Else-last)
-    → let a = c.args in
-    (octets : List ℕ)
-    → shortest_header a.cid a.ptype a.last a.len ≡ octets
-    → header.Stored a.room.now octets a.at a.cid a.ptype a.last a.len
-fitting-at-Else-last c =
+one c =
     let a = c.args in
-    header.stored a.room.now a.at a.cid a.ptype a.last a.len c.if-cid-lt4.false
-    c.if-ptype-gt15.false
-    c.if-room-at.false
+    header.stored a.room.now a.at a.cid a.ptype a.last a.len c.if-cid-lt4.false c.if-ptype-gt15.false c.if-room-at.false
     (rw c.header_size.ensures at c.if-room-at-2.false)
+    _
+    (header.alone _ _ _ _ c.if-octet1a-eq0.true c.if-last.true)
 
 two :
     (c : Else-last)
     → let a = c.args in
     header.Stored a.room.now ((64 + a.cid % 64) ∷ a.len ∷ []) a.at a.cid a.ptype a.last a.len
-two c = fitting-at-Else-last c _ (header.with-1b _ _ _ _ c.if-octet1a-eq0.true c.if-last.false)
-
--- past the tests the header fits what is left of the room, whichever octets it has
-fitting-at-Then-last-2 :
-    (c : Then-last-2)
-    → let a = c.args in
-    (octets : List ℕ)
-    → shortest_header a.cid a.ptype a.last a.len ≡ octets
-    → header.Stored a.room.now octets a.at a.cid a.ptype a.last a.len
-fitting-at-Then-last-2 c =
+two c =
     let a = c.args in
-    header.stored a.room.now a.at a.cid a.ptype a.last a.len c.if-cid-lt4.false
-    c.if-ptype-gt15.false
-    c.if-room-at.false
+    header.stored a.room.now a.at a.cid a.ptype a.last a.len c.if-cid-lt4.false c.if-ptype-gt15.false c.if-room-at.false
     (rw c.header_size.ensures at c.if-room-at-2.false)
+    _
+    (header.with-1b _ _ _ _ c.if-octet1a-eq0.true c.if-last.false)
 
 two-more :
     (c : Then-last-2)
     → let a = c.args in
     header.Stored a.room.now ((128 + a.cid % 64) ∷ (a.cid / 64 * 64 + a.ptype) ∷ []) a.at a.cid a.ptype a.last a.len
-two-more c = fitting-at-Then-last-2 c _ (header.with-1a _ _ _ _ c.if-octet1a-eq0.false c.if-last-2.true)
-
--- past the tests the header fits what is left of the room, whichever octets it has
-fitting-at-Else-last-2 :
-    (c : Else-last-2)
-    → let a = c.args in
-    (octets : List ℕ)
-    → shortest_header a.cid a.ptype a.last a.len ≡ octets
-    → header.Stored a.room.now octets a.at a.cid a.ptype a.last a.len
-fitting-at-Else-last-2 c =
+two-more c =
     let a = c.args in
-    header.stored a.room.now a.at a.cid a.ptype a.last a.len c.if-cid-lt4.false
-    c.if-ptype-gt15.false
-    c.if-room-at.false
+    header.stored a.room.now a.at a.cid a.ptype a.last a.len c.if-cid-lt4.false c.if-ptype-gt15.false c.if-room-at.false
     (rw c.header_size.ensures at c.if-room-at-2.false)
+    _
+    (header.with-1a _ _ _ _ c.if-octet1a-eq0.false c.if-last-2.true)
 
 three :
     (c : Else-last-2)
     → let a = c.args in
     header.Stored a.room.now ((192 + a.cid % 64) ∷ (a.cid / 64 * 64 + a.ptype) ∷ a.len ∷ []) a.at a.cid a.ptype a.last a.len
-three c = fitting-at-Else-last-2 c _ (header.with-both _ _ _ _ c.if-octet1a-eq0.false c.if-last-2.false)
+three c =
+    let a = c.args in
+    header.stored a.room.now a.at a.cid a.ptype a.last a.len c.if-cid-lt4.false c.if-ptype-gt15.false c.if-room-at.false
+    (rw c.header_size.ensures at c.if-room-at-2.false)
+    _
+    (header.with-both _ _ _ _ c.if-octet1a-eq0.false c.if-last-2.false)
 
 pub returns-then-cid-lt4-clause-answer : goal.returns-then-cid-lt4-clause-answer
 returns-then-cid-lt4-clause-answer c = header.reserved _ _ _ _ _ c.if-cid-lt4.true

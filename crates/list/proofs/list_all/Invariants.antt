@@ -1,9 +1,6 @@
--- `list::list_all` is safe and ends: the turns are counted down.
+-- `list::list_all` is safe: the rooms keep their lengths.
 use Rattle.std.proofs.Common.{◌≡◌, length}
 use Rattle.list.proofs.list_all.Given as goal
 
-abbrev pub invariant-loop-turns : goal.invariant-loop-turns
-invariant-loop-turns g l = (length l.input ≡ length l.initial.input) × (length l.out ≡ length l.initial.out)
-
-abbrev pub decreases-loop-turns : goal.decreases-loop-turns
-decreases-loop-turns g l = l.turns
+abbrev pub invariant-loop : goal.invariant-loop
+invariant-loop g l = (length l.input ≡ length l.initial.input) × (length l.out ≡ length l.initial.out)

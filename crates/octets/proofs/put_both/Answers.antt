@@ -25,6 +25,9 @@ returns-clause-answer c = let a = c.args in
 
 pub returns-clause-holds : goal.returns-clause-holds
 returns-clause-holds c = let a = c.args in
-    let fits : a.at + length a.head.now + length a.body.now ≤ length a.room.now = omega arith in c.copy-2.ensures
-    ∙ ap (λ (l : List ℕ). written l (a.at + length a.head.now) a.body.now) c.copy.ensures
-    ∙ writes.written_twice a.room.now a.head.now a.body.now a.at fits
+    let first = writes.copied a.room.now a.head.now c.copy_from_slice.new.self a.at _ (omega arith) (omega arith) c.copy_from_slice.ensures.after in
+    let same = writes.as_long a.room.now a.head.now _ a.at (omega arith) first in
+    let second = writes.copied _ a.body.now c.copy_from_slice-2.new.self (a.at + length a.head.now) _ (omega arith) (omega arith) c.copy_from_slice-2.ensures.after in
+    second
+    ∙ ap (λ (l : List ℕ). written l (a.at + length a.head.now) a.body.now) first
+    ∙ writes.written_twice a.room.now a.head.now a.body.now a.at (omega arith)

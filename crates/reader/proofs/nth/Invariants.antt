@@ -1,11 +1,9 @@
--- `reader::nth` meets its contract: what stands after n others is what is found after `left` steps more.
+-- `reader::nth` meets its contract: what stands after n others is what is found after the steps that are left.
 use mathlib.Core.Path.{◌≡◌}
+use Prim.Native.Nat.{◌-◌}
 use Rattle.reader.specs.Reading.{nth_of}
 use Rattle.reader.proofs.Yields.{ahead}
 use Rattle.reader.proofs.nth.Given as goal
 
-abbrev pub invariant-loop-left : goal.invariant-loop-left
-invariant-loop-left l = ahead l.left l.found l.reader ≡ nth_of l.frame l.n
-
-abbrev pub decreases-loop-left : goal.decreases-loop-left
-decreases-loop-left l = l.left
+abbrev pub invariant-loop : goal.invariant-loop
+invariant-loop l = ahead (l.n - l.counter) l.found l.reader ≡ nth_of l.frame l.n

@@ -1,21 +1,14 @@
--- `seizing::ten_allowed` meets its contract: after i turns the samples from i on decide.
-use mathlib.Core.Path.{sym, ◌∙◌}
-use native.Mathlib.Omega.{arith}
-use borrow.Author.Tests.{not-true, not-false}
-use Rattle.signalling.proofs.Samples as samples-of
+-- `seizing::ten_allowed` meets its contract.
+use mathlib.Core.Path.{◌∙◌}
+use Rattle.std.proofs.Common.{rules, tests}
+use Rattle.std.proofs.lemmas.Iterator.{YieldsList-from_slice}
+use Rattle.std.proofs.lemmas.Iterator.Search.{all_from_yields_List}
+use Rattle.signalling.specs.Layout.{allowed}
+use Rattle.signalling.proofs.Samples.{listed, allowed-looks}
 use Rattle.seizing.proofs.ten_allowed.Goals as goal
 
-pub returns-then-not-allowed : goal.returns-then-not-allowed
-returns-then-not-allowed c = let a = c.args in
-    samples-of.stops (samples-of.allowed-looks a.samples) _ 10 c.loop-i.i c.loop-i.invariant.1 c.loop-i-test.true
-    (sym c.allowed.ensures ∙ not-true _ c.if-not-allowed.true-raw)
-
-pub loop-i-preserved : goal.loop-i-preserved
-loop-i-preserved c = let a = c.args in (
-  omega arith,
-  samples-of.goes_on (samples-of.allowed-looks a.samples) _ 10 c.loop-i.i c.loop-i.invariant.1 c.loop-i-test.true
-      (sym c.allowed.ensures ∙ not-false _ c.if-not-allowed.false-raw),
-)
-
 pub returns : goal.returns
-returns c = samples-of.all_seen (samples-of.allowed-looks c.args.samples) _ 10 c.loop-i.i c.loop-i.invariant.1 c.loop-i-test.false
+returns c =
+    let samples = c.args.samples in
+    all_from_yields_List allowed _ _ _ c.all.ensures.ran (YieldsList-from_slice samples (cc)) (λ x b q k. search (rules, tests))
+    ∙ listed allowed samples _ (allowed-looks samples) 10 0 (search rules)

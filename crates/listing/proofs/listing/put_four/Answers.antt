@@ -7,8 +7,8 @@ use Rattle.listing.proofs.listing.put_four.Goals as goal
 
 pub returns : goal.returns
 unfolding four_fields
-returns c = let start = c.before in
-    let one = appending.then-field (appending.none start.args.out.now start.args.at) (ascii "cid=") start.args.cid (omega (arith, start.requires)) (c.put_octet_field-past_cid.ensures.answer, c.put_octet_field-past_cid.ensures.holds) in
-    let two = appending.then-field one (ascii "type=") start.args.ptype (omega (arith, start.requires)) (c.put_octet_field-past_type.ensures.answer, c.put_octet_field-past_type.ensures.holds) in
-    let three = appending.then-field two (ascii "len=") start.args.len (omega (arith, start.requires)) (c.put_field-past_len.ensures.answer, c.put_field-past_len.ensures.holds) in
-    appending.then-field three (ascii "answer=") start.args.number (omega (arith, start.requires)) (c.put_octet_field.ensures.answer, c.put_octet_field.ensures.holds)
+returns c =
+    let one = appending.then-field (appending.none c.args.out.now c.args.at) (ascii "cid=") c.args.cid (omega (arith, c.requires)) (c.put_octet_field-past_cid.ensures.answer, c.put_octet_field-past_cid.ensures.holds) in
+    let two = appending.then-field one (ascii "type=") c.args.ptype (omega (arith, c.requires)) (c.put_octet_field-past_type.ensures.answer, c.put_octet_field-past_type.ensures.holds) in
+    let three = appending.then-field two (ascii "len=") c.args.len (omega (arith, c.requires)) (c.put_field-past_len.ensures.answer, c.put_field-past_len.ensures.holds) in
+    appending.then-field three (ascii "answer=") c.args.number (omega (arith, c.requires)) (c.put_octet_field.ensures.answer, c.put_octet_field.ensures.holds)

@@ -2,13 +2,10 @@
 use Rattle.listing.proofs.StreamTurns as turns
 use Rattle.listing.proofs.stream.list_last.Goals as goal
 
-pub returns-then-have-eq0 : goal.returns-then-have-eq0
-returns-then-have-eq0 c = let both = let a = c.args in turns.none_kept a.table.now a.begun a.kept.now a.out.now c.if-have-eq0.true in record { says = both.0; holds = both.1 }
+pub returns-then-begun-eq0 : goal.returns-then-begun-eq0
+returns-then-begun-eq0 c = let both = turns.none_kept c.args.table.now c.args.begun c.args.kept.now c.args.out.now c.if-begun-eq0.true in record { says = both.0; holds = both.1 }
 
-pub returns-in-Written : goal.returns-in-Written
-returns-in-Written c = let both = let a = c.args in
-    turns.last-listed a.table.now a.begun a.kept.now a.out.now c.if-have-eq0.false c.least-end.ensures c.list_line.ensures.answer c.list_line.ensures.holds c.in-Written.is in record { says = both.0; holds = both.1 }
-
-pub returns-in-NotWritten : goal.returns-in-NotWritten
-returns-in-NotWritten c = let both = let a = c.args in
-    turns.no_room a.table.now a.begun a.kept.now a.out.now c.if-have-eq0.false c.least-end.ensures c.list_line.ensures.answer c.list_line.ensures.holds c.in-NotWritten.is in record { says = both.0; holds = both.1 }
+pub returns : goal.returns
+returns c =
+    let both = turns.kept-listed _ _ _ c.args.out.now c.if-begun-eq0.false c.least-end.ensures c.list_line.ensures.answer c.list_line.ensures.holds in
+    rw c.unwrap_or.ensures (record { says = both.0; holds = both.1 })

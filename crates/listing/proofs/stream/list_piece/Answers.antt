@@ -1,24 +1,36 @@
 -- `listing::stream::list_piece` meets its contract: each turn takes a line, or what the piece has of it.
 use native.Mathlib.Omega.{arith}
-use Rattle.recording.proofs.Walks as walks
+use mathlib.Core.Path.{refl, sym, ◌∙◌}
+use Rattle.std.proofs.Common.{rules}
 use Rattle.listing.proofs.StreamTurns as turns
 use Rattle.listing.proofs.stream.list_piece.Goals as goal
+use Rattle.listing.proofs.stream.list_piece.Goals.{then-loop-frame-test+else-out-used-ge-MOST_LISTED, else-loop-frame-test}
 
-pub returns-then-out-used-lt-MOST_LISTED : goal.returns-then-out-used-lt-MOST_LISTED
-returns-then-out-used-lt-MOST_LISTED c = let both = turns.promised (walks.short _ _ c.loop-at.invariant.0 c.loop-at-test.true c.if-out-used-lt-MOST_LISTED.true) in record { says = both.0; keeps = both.1.0; holds = both.1.1 }
+pub loop-frame-init : goal.loop-frame-init
+loop-frame-init c = (turns.begins _ _ _ _ _, refl)
 
-pub overflow_add-at : goal.overflow_add-at
-overflow_add-at c = omega (arith, c.well_formed.0.0, walks.within _ _ c.loop-at.invariant.0 c.loop-at-test.true c.loop-at.frame c.take_line-line.result c.take_line-line.ensures.says)
+pub slice_bounds-rest-count : goal.slice_bounds-rest-count
+slice_bounds-rest-count c = turns.part c.loop-frame.invariant.0 (sym c.is_empty.ensures ∙ c.loop-frame-test.true) c.loop-frame.frame c.take_line-taken.result c.take_line-taken.ensures.says
 
-pub loop-at-smaller : goal.loop-at-smaller
-loop-at-smaller c = omega (arith, walks.within _ _ c.loop-at.invariant.0 c.loop-at-test.true c.loop-at.frame c.take_line-line.result c.take_line-line.ensures.says, walks.some-taken _ _ c.loop-at.invariant.0 c.loop-at-test.true c.loop-at.frame c.take_line-line.result c.take_line-line.ensures.says)
+pub slice_bounds-rest-start : goal.slice_bounds-rest-start
+slice_bounds-rest-start c = let h = turns.part c.loop-frame.invariant.0 (sym c.is_empty.ensures ∙ c.loop-frame-test.true) c.loop-frame.frame c.take_line-taken.result c.take_line-taken.ensures.says in search rules
 
-pub loop-at-preserved : goal.loop-at-preserved
-loop-at-preserved c = (
-  turns.turn c.args.table.now c.loop-at.invariant.0 c.loop-at-test.true c.loop-at.frame c.take_line-line.result c.take_line-line.ensures.says (omega (arith, c.loop-at.invariant.1)) c.if-out-used-lt-MOST_LISTED.false c.take_line-line.ensures.keeps c.take_line-line.ensures.holds
-      c.put_taken-used.ensures,
-  omega (arith, c.take_line-line.auto.frame, c.loop-at.invariant.1),
+pub loop-frame-smaller : goal.loop-frame-smaller
+loop-frame-smaller c = turns.shorter c.loop-frame.invariant.0 (sym c.is_empty.ensures ∙ c.loop-frame-test.true) c.loop-frame.frame c.take_line-taken.result c.take_line-taken.ensures.says
+
+pub loop-frame-preserved : goal.loop-frame-preserved
+loop-frame-preserved c = (
+  turns.turn c.loop-frame.invariant.0 (sym c.is_empty.ensures ∙ c.loop-frame-test.true) c.loop-frame.frame c.take_line-taken.result c.take_line-taken.ensures.says (omega (arith, c.loop-frame.invariant.1))
+      c.if-out-used-ge-MOST_LISTED.true c.take_line-taken.ensures.keeps c.take_line-taken.ensures.holds c.put_taken-used.ensures,
+  omega (arith, c.take_line-taken.auto.frame, c.loop-frame.invariant.1),
 )
 
 pub returns : goal.returns
-returns c = let both = turns.promised (walks.all _ _ c.loop-at.invariant.0 c.loop-at-test.false) in record { says = both.0; keeps = both.1.0; holds = both.1.1 }
+returns c =
+    let both : turns.Ends c.loop-frame.invariant.0 =
+    elim c.loop-frame-test.branch [
+      | then-loop-frame-test+else-out-used-ge-MOST_LISTED w ↦ turns.short c.loop-frame.invariant.0 (sym c.is_empty.ensures ∙ w.loop-frame-test.true) w.if-out-used-ge-MOST_LISTED.false
+      | else-loop-frame-test w ↦ turns.all c.loop-frame.invariant.0 (sym c.is_empty.ensures ∙ w.loop-frame-test.false)
+    ]
+    in
+    record { says = both.0; keeps = both.1.0; holds = both.1.1 }

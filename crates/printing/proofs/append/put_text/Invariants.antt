@@ -1,11 +1,7 @@
--- `printing::append::put_text` meets its contract: after i turns the first i octets stand.
-use Prim.Native.Nat.{◌-◌, ◌≤◌}
-use lib.ListN.{length, take}
+-- `printing::append::put_text` meets its contract: after so many turns as many octets stand.
+use lib.ListN.{take}
 use Rattle.printing.specs.Room.{Appended}
 use Rattle.printing.proofs.append.put_text.Given as goal
 
-abbrev pub invariant-loop-i : goal.invariant-loop-i
-invariant-loop-i l = (l.i ≤ length l.text) × Appended l.initial.out l.at (take l.i l.text) l.i l.out l.next
-
-abbrev pub decreases-loop-i : goal.decreases-loop-i
-decreases-loop-i l = length l.text - l.i
+abbrev pub invariant-loop-octet : goal.invariant-loop-octet
+invariant-loop-octet l = Appended l.initial.out l.at (take l.octet-index l.text) l.octet-index l.out l.next

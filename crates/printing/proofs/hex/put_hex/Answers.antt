@@ -1,13 +1,12 @@
--- `printing::hex::put_hex` meets its contract: after i turns the first i octets stand.
+-- `printing::hex::put_hex` meets its contract: after so many turns as many octets stand.
 use mathlib.Core.Path.{refl}
-use native.Mathlib.Omega.{arith}
 use Rattle.printing.specs.Hex.{hex_of}
 use Rattle.printing.proofs.Appending as appending
 use Rattle.printing.proofs.hex.put_hex.Goals as goal
 
-pub loop-i-init : goal.loop-i-init
+pub loop-octet-init : goal.loop-octet-init
 unfolding hex_of
-loop-i-init c = (omega arith, appending.none _ _)
+loop-octet-init c = appending.none _ _
 
-pub loop-i-preserved : goal.loop-i-preserved
-loop-i-preserved c = (omega (arith, c.loop-i-test.true), appending.hex-turn c.args.octets.now c.loop-i.i c.loop-i.invariant.1 _ c.loop-i-test.true refl c.requires c.put_pair-next.ensures)
+pub loop-octet-preserved : goal.loop-octet-preserved
+loop-octet-preserved c = appending.hex-turn c.args.octets.now c.loop-octet.octet-index c.loop-octet.invariant _ c.loop-octet-test.true refl c.requires c.put_pair-next.ensures

@@ -1,25 +1,16 @@
--- `record::table::meaning` meets its contract: what stands at the place of the syntax, and then the pair, says which case of `meaning`
--- holds.
-use Prim.Native.Nat.{◌/◌, ◌≤◌}
-use mathlib.Core.Path.{◌≡◌, sym, ◌∙◌}
-use mathlib.Core.Bool.{true, false}
-use mathlib.Core.Logic.{⊎_elim}
-use native.Mathlib.Omega.{arith}
-use Rattle.record.proofs.Packing as packing
-use Rattle.record.proofs.Places as places
+-- `record::table::meaning` meets its contract: what stands at the place of the syntax, and then the pair.
+use mathlib.Core.Path.{sym, ap, ◌∙◌}
+use mathlib.Core.Bool.{Bool}
+use Rattle.std.specs.Bool.{then_some}
+use Rattle.record.specs.Record.{with_pair}
+use Rattle.record.proofs.Packing.{meaning_by}
 use Rattle.record.proofs.table.meaning.Goals as goal
 
-pub returns-then-pair_listed : goal.returns-then-pair_listed
-returns-then-pair_listed c = let l = places.listed (c.args.number / 32) c.in-Listed.syntax (sym c.in-Listed.is ∙ c.listed_at.ensures) in
-    sym
-    (packing.by-pair c.args.number (omega (arith, l.0)) (omega (arith, l.1.0)) c.in-Listed.syntax true l.1.1 (sym c.pair_listed.ensures ∙ c.if-pair_listed.true))
+pub returns-in_err-syntax : goal.returns-in_err-syntax
+returns-in_err-syntax c = c.from_residual.ensures ∙ sym (meaning_by c.args.number _ (sym c.in_err-syntax.was ∙ c.listed_at.ensures))
 
-pub returns-in-NotListed : goal.returns-in-NotListed
-returns-in-NotListed c = sym
-    (⊎_elim (λ (z : c.args.number / 32 ≡ 0). packing.none_at_zero c.args.number (omega arith)) (λ (p : 8 ≤ c.args.number / 32). packing.none-beyond c.args.number (omega arith))
-    (places.not_listed (c.args.number / 32) (sym c.in-NotListed.is ∙ c.listed_at.ensures)))
-
-pub returns-else-pair_listed : goal.returns-else-pair_listed
-returns-else-pair_listed c = let l = places.listed (c.args.number / 32) c.in-Listed.syntax (sym c.in-Listed.is ∙ c.listed_at.ensures) in
-    sym
-    (packing.by-pair c.args.number (omega (arith, l.0)) (omega (arith, l.1.0)) c.in-Listed.syntax false l.1.1 (sym c.pair_listed.ensures ∙ c.if-pair_listed.false))
+pub returns : goal.returns
+returns c =
+    c.then_some.ensures
+    ∙ ap (λ (b : Bool). then_some b (with_pair c.in_ok-syntax.syntax c.args.number)) c.pair_listed.ensures
+    ∙ sym (meaning_by c.args.number _ (sym c.in_ok-syntax.was ∙ c.listed_at.ensures))

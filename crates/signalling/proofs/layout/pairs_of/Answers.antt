@@ -21,7 +21,7 @@ overflow_add-octets c = let low = small (goal.at.overflow_add-octets c).Start (c
     omega arith
 
 pub loop-i-preserved : goal.loop-i-preserved
-loop-i-preserved c = (omega arith, layout.pair-stored c.args.samples c.loop-i.octets c.loop-i.i c.loop-i.invariant.1 c.loop-i-test.true)
+loop-i-preserved c = layout.pair-stored c.args.samples c.loop-i.octets c.loop-i.i c.loop-i.invariant (omega arith)
 
 pub returns : goal.returns
-returns c = layout.all-paired c.args.samples c.loop-i.octets c.loop-i.i c.loop-i.invariant.1 c.loop-i.invariant.0 c.loop-i-test.false
+returns c = layout.all-paired c.args.samples c.loop-i.octets c.loop-i.i c.loop-i.invariant (omega arith) (omega arith)

@@ -1,5 +1,4 @@
 -- `signalling::layout::pairs_of` meets its contract: after i turns i octets of two samples each stand in their places.
-use Prim.Native.Nat.{◌-◌, ◌≤◌}
 use mathlib.Core.Path.{◌≡◌}
 use lib.ListN.{replicate}
 use lib.Seq.{paste}
@@ -7,7 +6,4 @@ use Rattle.signalling.specs.Layout.{pairs}
 use Rattle.signalling.proofs.layout.pairs_of.Given as goal
 
 abbrev pub invariant-loop-i : goal.invariant-loop-i
-invariant-loop-i l = (l.i ≤ 15) × (l.octets ≡ paste (replicate 15 0) 0 (pairs 15 0 l.samples) l.i)
-
-abbrev pub decreases-loop-i : goal.decreases-loop-i
-decreases-loop-i l = 15 - l.i
+invariant-loop-i l = l.octets ≡ paste (replicate 15 0) 0 (pairs 15 0 l.samples) l.i

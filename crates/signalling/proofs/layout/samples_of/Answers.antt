@@ -5,8 +5,8 @@ use Rattle.signalling.proofs.layout.samples_of.Goals as goal
 
 pub loop-i-preserved : goal.loop-i-preserved
 loop-i-preserved c = let s = c.before in
-    (omega arith, halves_of.turn s.args.payload.now s.requires c.loop-i.samples c.loop-i.i c.loop-i-test.true c.loop-i.invariant.1)
+    halves_of.turn s.args.payload.now s.requires c.loop-i.samples c.loop-i.i (omega arith) c.loop-i.invariant
 
 pub returns : goal.returns
 returns c = let s = c.before in
-    halves_of.done s.args.payload.now s.requires c.loop-i.samples c.loop-i.i c.loop-i.invariant.0 c.loop-i-test.false c.loop-i.invariant.1
+    halves_of.done s.args.payload.now s.requires c.loop-i.samples c.loop-i.i (omega arith) (omega arith) c.loop-i.invariant

@@ -1,5 +1,5 @@
 -- `signalling::layout::samples_of` meets its contract: after i turns the samples of i octets stand in their places.
-use Prim.Native.Nat.{◌+◌, ◌-◌, ◌≤◌}
+use Prim.Native.Nat.{◌+◌}
 use mathlib.Core.Path.{◌≡◌}
 use lib.ListN.{drop, replicate}
 use lib.Seq.{paste}
@@ -7,7 +7,4 @@ use Rattle.signalling.specs.Layout.{halves}
 use Rattle.signalling.proofs.layout.samples_of.Given as goal
 
 abbrev pub invariant-loop-i : goal.invariant-loop-i
-invariant-loop-i l = (l.i ≤ 15) × (l.samples ≡ paste (replicate 30 0) 0 (halves (drop 1 l.payload)) (l.i + l.i))
-
-abbrev pub decreases-loop-i : goal.decreases-loop-i
-decreases-loop-i l = 15 - l.i
+invariant-loop-i l = l.samples ≡ paste (replicate 30 0) 0 (halves (drop 1 l.payload)) (l.i + l.i)

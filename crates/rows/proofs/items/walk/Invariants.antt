@@ -1,8 +1,0 @@
--- `rows::items::walk` is safe and ends.
-use Rattle.rows.proofs.items.walk.Given as goal
-
-abbrev pub invariant-loop-walk : goal.invariant-loop-walk
-invariant-loop-walk l = Unit {0}
-
-abbrev pub decreases-loop-walk : goal.decreases-loop-walk
-decreases-loop-walk l = l.walk.left

@@ -1,9 +1,0 @@
--- `rows::writes::octets` is safe and ends.
-use Rattle.std.proofs.Common.{◌-◌, length}
-use Rattle.rows.proofs.writes.octets.Given as goal
-
-abbrev pub invariant-loop-i : goal.invariant-loop-i
-invariant-loop-i l = Unit {0}
-
-abbrev pub decreases-loop-i : goal.decreases-loop-i
-decreases-loop-i l = length l.room - l.i
