@@ -21,7 +21,7 @@ pub fn take(rt: &impl Print, line: &[u8], table: &[u16; 256]) {
 }
 
 fn number(rt: &impl Print, number: u8) {
-    console::print::number(rt, b"", number as u64);
+    console::print::number(rt, b"", u64::from(number));
 }
 
 fn count(rt: &impl Print, octets: usize) {
@@ -53,7 +53,10 @@ fn written(rt: &impl Print, answer: Result<Writer, Refusal>) {
 
 // The octets from a place on, so many by two octets of size.
 fn body(o: &[u8; 600], at: usize, high: u8, low: u8) -> &[u8] {
-    line::front(line::rest(o, at), octets::double(high, low) as usize)
+    o.get(at..)
+        .unwrap_or(&[])
+        .get(..usize::from(octets::double(high, low)))
+        .unwrap_or(&[])
 }
 
 // `check=`: the CID, the type (0 the provisioned syntax, 1 digits, 2 signalling, 3 fax, 4 SID), and two octets of size before the payload.

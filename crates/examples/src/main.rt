@@ -38,15 +38,15 @@ fn one(
     let mut room = [0u8; 400];
     let line = console::input::read_line(reader, block, &mut room, input);
     if line.whole {
-        take(rt, line::front(&room, line.size), table);
+        take(rt, room.get(..line.size).unwrap_or(&[]), table);
     }
     line
 }
 
 fn take(rt: &impl Print, line: &[u8], table: &mut [u16; 256]) {
     match octets::octet(line, 0) {
-        b'n' => name(rt, line::rest(line, 5)),
-        b't' => texts::text(rt, line::rest(line, 5), table),
+        b'n' => name(rt, line.get(5..).unwrap_or(&[])),
+        b't' => texts::text(rt, line.get(5..).unwrap_or(&[]), table),
         b'l' => texts::long(rt, line, table),
         _ => contents::take(rt, line, table),
     }

@@ -13,19 +13,19 @@ pub fn text(rt: &impl Print, text: &[u8], table: &mut [u16; 256]) {
 pub fn long(rt: &impl Print, line: &[u8], table: &mut [u16; 256]) {
     let o = line::octets_of(line);
     let size = three(o[0], octets::double(o[1], o[2]));
-    read(rt, line::rest(line, 12), size, table);
+    read(rt, line.get(12..).unwrap_or(&[]), size, table);
 }
 
 // A number of three octets.
 fn three(high: u8, low: u16) -> usize {
-    high as usize * 65536 + low as usize
+    usize::from(high) * 65536 + usize::from(low)
 }
 
 fn read(rt: &impl Print, text: &[u8], size: usize, table: &mut [u16; 256]) {
     let mut room = [0u8; 65536];
     let _ = octets::put_octets(&mut room, 0, text);
     put_lines(&mut room);
-    match provisioning::text::read_text(line::front(&room, size), table) {
+    match provisioning::text::read_text(room.get(..size).unwrap_or(&[]), table) {
         Ok(blocks) => console::print::number(rt, b"taken ", blocks as u64),
         Err(answer) => refused(rt, answer),
     }

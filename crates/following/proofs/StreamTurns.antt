@@ -15,18 +15,18 @@ use Rattle.octets.specs.Room.{written}
 use Rattle.octets.specs.Text.{has_lf}
 use Rattle.recording.specs.declared.stream.Begun.{Begun}
 use Rattle.recording.specs.declared.stream.Taken.{Taken}
+use Rattle.recording.specs.declared.stream.Walked.{Walked}
 use Rattle.hexline.specs.Line.{octets, line_read, in_room, read_of, octets_of}
 use Rattle.recording.specs.Stream.{line_of, held_by, kept_behind, taken as line_taken}
-use Rattle.recording.specs.Walk.{Told, Walk, nothing, next_told}
+use Rattle.recording.specs.Walk.{Told, Walk, nothing, next_told, answered}
 use Rattle.recording.proofs.Ends as ends
 use Rattle.octets.proofs.Writes as writes
 use Rattle.recording.proofs.Keeping as keeping
 use Rattle.recording.proofs.Walks as walks
 use Rattle.trunk.specs.declared.Trunk.{Trunk}
-use Rattle.following.specs.declared.stream.Followed.{Followed}
 use Rattle.following.specs.Following.{line_following}
 use Rattle.following.specs.Private.{Stands, following_of, taken_following}
-use Rattle.following.specs.Stream.{answer, piece_followed, last_followed}
+use Rattle.following.specs.Stream.{piece_followed, last_followed}
 use Rattle.following.proofs.Turns as turns
 
 -- a line that is taken, by what is told of it
@@ -50,9 +50,9 @@ module _ (frame table : List ℕ) (cid : ℕ) (begun : Begun) (kept piece : List
   told_is line is room holds = rw (is, holds) (told-by (has_lf piece) room)
 
 -- what the code promises of a walk
-abbrev pub Promised : List ℕ → Walk Trunk → Followed → List ℕ → Trunk → List ℕ → Type 0
+abbrev pub Promised : List ℕ → Walk Trunk → Walked → List ℕ → Trunk → List ℕ → Type 0
 Promised out₀ whole r kept now out =
-    (r ≡ answer whole) × ((kept ≡ whole.kept) × ((now ≡ whole.state) × (out ≡ written out₀ 0 whole.text)))
+    (r ≡ answered whole) × ((kept ≡ whole.kept) × ((now ≡ whole.state) × (out ≡ written out₀ 0 whole.text)))
 
 -- what is left of the piece, and how the walk stands
 pub record Going (table : List ℕ) (cid : ℕ) (out₀ piece : List ℕ) (whole : Walk Trunk) (kept out : List ℕ) (begun : Begun) (used : ℕ) (now : Trunk) (rest : List ℕ) : Type 0 where
@@ -74,15 +74,14 @@ module _ {table : List ℕ} {cid : ℕ} {out₀ piece : List ℕ} {whole : Walk 
   abbrev pub Ends : Type 0
   Ends =
       Promised out₀ whole
-      (record { taken = length piece - length rest; used = used; have = begun.have; number = begun.number })
+      (record { taken = length piece - length rest; used = used; next = begun })
       kept now out
 
   promised : walks.Promised out₀ whole going.at used begun now kept out → Ends
   promised p =
       let takes : length piece - length rest ≡ whole.taken = omega (arith, p.takes, size, going.stands.within) in
       let prints : used ≡ length whole.text = p.prints in
-      let h : begun.have ≡ whole.next.have = ap (λ (b : Begun). b.have) p.next in
-      let n : begun.number ≡ whole.next.number = ap (λ (b : Begun). b.number) p.next in
+      let goes : begun ≡ whole.next = p.next in
       (cc, (p.keeps, (p.leaves, p.holds)))
 
   pub all : eqb (length rest) 0 ≡ true → Ends

@@ -1,22 +1,14 @@
 // A recording followed piece by piece, in fixed memory (docs/FOLLOW.md).
 ghost use Rattle.std.specs.Prelude.{◌≡◌, ◌+◌, ◌≤◌, length, IfSome, IfOk};
 ghost use Rattle.octets.specs.Room.{written};
+ghost use Rattle.recording.specs.Walk.{answered};
 ghost use Rattle.following.specs.Private.{Stands, taken_following};
-ghost use Rattle.following.specs.Stream.{piece_followed, answer, last_followed};
+ghost use Rattle.following.specs.Stream.{piece_followed, last_followed};
 
 use crate::following::MOST_FOLLOWED;
-use recording::stream::{Begun, MOST_KEPT};
+use recording::stream::{Begun, MOST_KEPT, Walked};
 use refusal::Refusal;
 use trunk::Trunk;
-
-// What following a piece does: the octets taken of it, the octets printed, and how it stands then.
-#[derive(Clone, Copy)]
-pub struct Followed {
-    pub taken: usize,
-    pub used: usize,
-    pub have: usize,
-    pub number: u64,
-}
 
 // A line that is taken from a piece, where it is whole, as the frame number n.
 fn put_taken(
@@ -50,8 +42,8 @@ pub fn follow_piece(
     cid: u8,
     trunk: &mut Trunk,
     out: &mut [u8],
-) -> Followed
-    ensures says { result ≡ answer (piece_followed (length out.old) table.now cid begun kept.old trunk.old piece.now) }
+) -> Walked
+    ensures says { result ≡ answered (piece_followed (length out.old) table.now cid begun kept.old trunk.old piece.now) }
     ensures keeps { kept.new ≡ (piece_followed (length out.old) table.now cid begun kept.old trunk.old piece.now).kept }
     ensures leaves { trunk.new ≡ (piece_followed (length out.old) table.now cid begun kept.old trunk.old piece.now).state }
     ensures holds { out.new ≡ written out.old 0 (piece_followed (length out.old) table.now cid begun kept.old trunk.old piece.now).text }
@@ -75,11 +67,10 @@ pub fn follow_piece(
         rest = &rest[taken.size..];
         stands = taken.next;
     }
-    Followed {
+    Walked {
         taken: piece.len() - rest.len(),
         used,
-        have: stands.have,
-        number: stands.number,
+        next: stands,
     }
 }
 

@@ -18,16 +18,16 @@ use Rattle.octets.specs.Room.{written, left_by}
 use Rattle.octets.specs.Text.{has_lf}
 use Rattle.recording.specs.declared.stream.Begun.{Begun}
 use Rattle.recording.specs.declared.stream.Taken.{Taken}
+use Rattle.recording.specs.declared.stream.Walked.{Walked}
 use Rattle.hexline.specs.Line.{octets, line_read, in_room, read_of, octets_of}
 use Rattle.recording.specs.Stream.{line_of, held_by, kept_behind, taken as line_taken}
-use Rattle.recording.specs.Walk.{Told, Walk, nothing, next_told}
+use Rattle.recording.specs.Walk.{Told, Walk, nothing, next_told, answered}
 use Rattle.recording.proofs.Ends as ends
 use Rattle.octets.proofs.Writes as writes
 use Rattle.recording.proofs.Keeping as keeping
 use Rattle.recording.proofs.Walks as walks
-use Rattle.listing.specs.declared.stream.Listed.{Listed}
 use Rattle.listing.specs.Listing.{line_listing, tell_line, listed}
-use Rattle.listing.specs.Stream.{answer, piece_listed, last_listed}
+use Rattle.listing.specs.Stream.{piece_listed, last_listed}
 use Rattle.printing.specs.Room.{Appended}
 use Rattle.listing.specs.Private.{taken_listing}
 use Rattle.listing.proofs.Listings as listings
@@ -53,8 +53,8 @@ module _ (frame table : List ℕ) (begun : Begun) (kept piece : List ℕ) where
   listing-is line is room holds = rw (is, holds) (text-is (has_lf piece) room)
 
 -- what the code of the listing promises of a walk
-abbrev pub Promised : List ℕ → Walk (Unit {0}) → Listed → List ℕ → List ℕ → Type 0
-Promised out₀ whole r kept out = (r ≡ answer whole) × ((kept ≡ whole.kept) × (out ≡ written out₀ 0 whole.text))
+abbrev pub Promised : List ℕ → Walk (Unit {0}) → Walked → List ℕ → List ℕ → Type 0
+Promised out₀ whole r kept out = (r ≡ answered whole) × ((kept ≡ whole.kept) × (out ≡ written out₀ 0 whole.text))
 
 -- what is left of the piece, and how the walk stands
 pub record Going (table out₀ piece : List ℕ) (whole : Walk (Unit {0})) (kept out : List ℕ) (begun : Begun) (used : ℕ) (rest : List ℕ) : Type 0 where
@@ -73,14 +73,13 @@ module _ {table out₀ piece : List ℕ} {whole : Walk (Unit {0})} {kept out : L
   size = ap length going.left ∙ length-drop going.at piece
 
   abbrev pub Ends : Type 0
-  Ends = Promised out₀ whole (record { taken = length piece - length rest; used = used; have = begun.have; number = begun.number }) kept out
+  Ends = Promised out₀ whole (record { taken = length piece - length rest; used = used; next = begun }) kept out
 
   promised : walks.Promised out₀ whole going.at used begun tt kept out → Ends
   promised p =
       let takes : length piece - length rest ≡ whole.taken = omega (arith, p.takes, size, going.stands.within) in
       let prints : used ≡ length whole.text = p.prints in
-      let h : begun.have ≡ whole.next.have = ap (λ (b : Begun). b.have) p.next in
-      let n : begun.number ≡ whole.next.number = ap (λ (b : Begun). b.number) p.next in
+      let goes : begun ≡ whole.next = p.next in
       (cc, (p.keeps, p.holds))
 
   pub all : eqb (length rest) 0 ≡ true → Ends

@@ -1,22 +1,14 @@
 // A recording listed piece by piece, in fixed memory (document 01, "Listing program").
 ghost use Rattle.std.specs.Prelude.{◌≡◌, ◌+◌, ◌≤◌, length, IfSome, IfOk};
 ghost use Rattle.octets.specs.Room.{written};
+ghost use Rattle.recording.specs.Walk.{answered};
 ghost use Rattle.listing.specs.Private.{taken_listing};
-ghost use Rattle.listing.specs.Stream.{piece_listed, answer, last_listed};
+ghost use Rattle.listing.specs.Stream.{piece_listed, last_listed};
 ghost use Rattle.printing.specs.Room.{Appended};
 
 use crate::listing::MOST_LISTED;
-use recording::stream::{Begun, MOST_KEPT};
+use recording::stream::{Begun, MOST_KEPT, Walked};
 use refusal::Refusal;
-
-// What listing a piece does: the octets taken of it, the octets listed, and how it stands then.
-#[derive(Clone, Copy)]
-pub struct Listed {
-    pub taken: usize,
-    pub used: usize,
-    pub have: usize,
-    pub number: u64,
-}
 
 // A line that is taken from a piece, where it is whole, as the frame number n.
 fn put_taken(
@@ -46,8 +38,8 @@ pub fn list_piece(
     kept: &mut [u8; MOST_KEPT],
     table: &[u16; 256],
     out: &mut [u8],
-) -> Listed
-    ensures says { result ≡ answer (piece_listed (length out.old) table.now begun kept.old piece.now) }
+) -> Walked
+    ensures says { result ≡ answered (piece_listed (length out.old) table.now begun kept.old piece.now) }
     ensures keeps { kept.new ≡ (piece_listed (length out.old) table.now begun kept.old piece.now).kept }
     ensures holds { out.new ≡ written out.old 0 (piece_listed (length out.old) table.now begun kept.old piece.now).text }
 {
@@ -61,11 +53,10 @@ pub fn list_piece(
         rest = &rest[taken.size..];
         stands = taken.next;
     }
-    Listed {
+    Walked {
         taken: piece.len() - rest.len(),
         used,
-        have: stands.have,
-        number: stands.number,
+        next: stands,
     }
 }
 

@@ -21,22 +21,6 @@ pub fn drawn(len: usize, seed: u64) -> Body {
     }
 }
 
-// The first octets, and none where there are fewer.
-pub fn front(octets: &[u8], size: usize) -> &[u8] {
-    if octets.len() < size {
-        return &octets[..0];
-    }
-    &octets[0..size]
-}
-
-// The octets from a place on.
-pub fn rest(octets: &[u8], start: usize) -> &[u8] {
-    if octets.len() < start {
-        return &octets[..0];
-    }
-    &octets[start..]
-}
-
 // Puts a body at the start of lent room, as far as there is room.
 pub fn fill(room: &mut [u8], body: Body) {
     let mut state = body.seed;
@@ -56,5 +40,5 @@ pub fn filled(body: Body) -> [u8; 1600] {
 
 // Whether octets are those of a body.
 pub fn same(octets: &[u8], body: Body) -> bool {
-    octets == front(&filled(body), body.len)
+    octets == filled(body).get(..body.len).unwrap_or(&[])
 }

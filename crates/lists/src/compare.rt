@@ -12,7 +12,7 @@ pub fn same_speech(payload: &[u8], rec: Record, seed: u64) -> bool {
         Ok(read) => {
             read.sequence == due.sequence
                 && read.coding == due.coding
-                && body::same(body::rest(payload, read.front), due.body)
+                && body::same(payload.get(read.front..).unwrap_or(&[]), due.body)
         }
         Err(_) => false,
     }
@@ -25,7 +25,7 @@ pub fn same_fragment(payload: &[u8], len: usize, seed: u64) -> bool {
             read.begins == due.begins
                 && read.ends == due.ends
                 && read.sequence == due.sequence
-                && body::same(body::rest(payload, 2), due.body)
+                && body::same(payload.get(2..).unwrap_or(&[]), due.body)
         }
         Err(_) => false,
     }
@@ -38,7 +38,7 @@ pub fn same_relay(payload: &[u8], seed: u64) -> bool {
             read.sequence == due.sequence
                 && read.stamp == due.stamp
                 && read.command == due.command
-                && body::same(body::rest(payload, read.front), due.body)
+                && body::same(payload.get(read.front..).unwrap_or(&[]), due.body)
         }
         Err(_) => false,
     }

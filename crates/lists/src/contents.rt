@@ -60,7 +60,7 @@ fn block(syntax: Syntax, coding: u8) -> u8 {
 fn wide(octet: u8) -> usize
     ensures { result ≤ 255 }
 {
-    octet as usize
+    usize::from(octet)
 }
 
 fn times(blocks: u8, octets: u8) -> usize {

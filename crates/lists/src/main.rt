@@ -43,7 +43,7 @@ fn provision(rt: &impl Print, reader: &mut impl Read, table: &mut [u16; 256]) {
 fn one(rt: &impl Print, table: &[u16; 256], list: list::List) {
     let mut room = [0u8; 1600];
     let written = writes::write_list(&mut room, table, list);
-    let frame = body::front(&room, written);
+    let frame = room.get(..written).unwrap_or(&[]);
     console::print::octets(rt, b"frame=", frame);
     if let Some(differs) = reads::first_differing(frame, table, list) {
         console::print::number(rt, b"differs=", differs as u64);

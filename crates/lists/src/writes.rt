@@ -24,7 +24,7 @@ fn write_speech(
         given.cid,
         speech.sequence,
         speech.coding,
-        body::front(&room, speech.body.len),
+        room.get(..speech.body.len).unwrap_or(&[]),
     )
 }
 
@@ -45,7 +45,7 @@ fn write_fragment(
         fragment.begins,
         fragment.ends,
         fragment.sequence,
-        body::front(&room, fragment.body.len),
+        room.get(..fragment.body.len).unwrap_or(&[]),
     )
 }
 
@@ -66,7 +66,7 @@ fn write_relay(
         relay.sequence,
         relay.stamp,
         relay.command,
-        body::front(&room, relay.body.len),
+        room.get(..relay.body.len).unwrap_or(&[]),
     )
 }
 

@@ -3,6 +3,7 @@ pub mod Ends
 pub mod Keeping
 pub mod Walks
 pub mod Joins
+pub mod Walked
 pub mod LineStart
 pub mod TextStart
 pub mod InputStart

@@ -3,6 +3,7 @@
 use Rattle.std.specs.Prelude.{ℕ, zero, suc, ◌+◌, ◌-◌, List, [], ◌∷◌, ◌++◌, cond, ltb, eqb, length, take, drop}
 use Rattle.octets.specs.Text.{has_lf}
 use Rattle.recording.specs.declared.stream.Begun.{Begun}
+use Rattle.recording.specs.declared.stream.Walked.{Walked}
 use Rattle.recording.specs.Pieces.{line_size}
 use Rattle.recording.specs.Stream.{line_of, next_of, kept_behind}
 
@@ -43,6 +44,10 @@ pub record Walk (S : Type 0) : Type 0 where
   pub kept : List ℕ
   pub next : Begun
   pub state : S
+
+-- the answer of the code
+abbrev pub answered : {S : Type 0} → Walk S → Walked
+answered w = record { taken = w.taken; used = length w.text; next = w.next }
 
 abbrev pub stopped : {S : Type 0} → Begun → List ℕ → S → Walk S
 stopped begun kept state = record { text = []; taken = 0; kept = kept; next = begun; state = state }

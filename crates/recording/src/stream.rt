@@ -26,6 +26,14 @@ pub struct Taken {
     pub next: Begun,
 }
 
+// What telling a piece does: the octets taken of it, the octets of text, and how the next line stands (`answered`).
+#[derive(Clone, Copy)]
+pub struct Walked {
+    pub taken: usize,
+    pub used: usize,
+    pub next: Begun,
+}
+
 // The frame number after this one. The last of 64 bits stays.
 #[tactic(auto, unfolding(crate::specs::Stream::next_number))]
 fn after(number: u64) -> u64

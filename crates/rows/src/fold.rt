@@ -13,7 +13,7 @@ pub fn fold(acc: u64, x: u64) -> u64 {
 }
 
 pub fn octet(acc: u64, x: u8) -> u64 {
-    fold(acc, x as u64)
+    fold(acc, u64::from(x))
 }
 
 pub fn flag(set: bool) -> u64
@@ -37,7 +37,10 @@ pub fn level(acc: u64, level: i8) -> u64 {
 }
 
 pub fn window(acc: u64, w: Window) -> u64 {
-    fold(acc, flag(w.on) * 1024 + w.edge as u64 * 32 + w.code as u64)
+    fold(
+        acc,
+        flag(w.on) * 1024 + u64::from(w.edge) * 32 + u64::from(w.code),
+    )
 }
 
 pub fn windows(acc: u64, one: Window, two: Window, three: Window) -> u64 {
@@ -47,7 +50,11 @@ pub fn windows(acc: u64, one: Window, two: Window, three: Window) -> u64 {
 fn five(acc: u64, a: u8, b: u8, c: u8, d: u8, e: u8) -> u64 {
     fold(
         acc,
-        a as u64 + b as u64 * 16 + c as u64 * 256 + d as u64 * 4096 + e as u64 * 65536,
+        u64::from(a)
+            + u64::from(b) * 16
+            + u64::from(c) * 256
+            + u64::from(d) * 4096
+            + u64::from(e) * 65536,
     )
 }
 

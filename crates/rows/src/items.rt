@@ -12,15 +12,12 @@ pub fn pair(octets: &[u8], at: usize) -> u16 {
 pub fn size(octets: &[u8], at: usize) -> usize
     ensures { result ≤ 65535 }
 {
-    pair(octets, at) as usize
+    usize::from(pair(octets, at))
 }
 
 // The octets of a part, and none where it is not there.
 pub fn part(octets: &[u8], start: usize, len: usize) -> &[u8] {
-    if octets.len() < start || octets.len() - start < len {
-        return &octets[..0];
-    }
-    &octets[start..start + len]
+    octets.get(start..start.saturating_add(len)).unwrap_or(&[])
 }
 
 // Where the first item is, and how many works are to be done on the items in turn.

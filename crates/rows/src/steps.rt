@@ -155,8 +155,11 @@ fn receive_signalling(items: &[u8], works: Works) -> u64 {
 // What modulation-on and -off bring: HDLC, modulation, frequency and stamp, 0 where there is none.
 fn modulated(acc: u64, hdlc: bool, modulation: u8, frequency: u16, stamp: u16) -> u64 {
     fold(
-        fold(octet(fold(acc, flag(hdlc)), modulation), frequency as u64),
-        stamp as u64,
+        fold(
+            octet(fold(acc, flag(hdlc)), modulation),
+            u64::from(frequency),
+        ),
+        u64::from(stamp),
     )
 }
 

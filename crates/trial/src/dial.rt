@@ -65,14 +65,11 @@ impl Dialling {
         }
     }
 
-    // What a line of a kind does to the receivers that *who* names: 1 the first, 2 the second, 3 both.
+    // What a line of a kind does to the receivers that *who* names.
     fn hear(&mut self, rt: &impl Print, kind: Kind, who: u8, payload: &[u8]) {
-        if who % 2 == 1 {
-            get(rt, kind, 1, &mut self.first, payload);
-        }
-        if 1 < who {
-            get(rt, kind, 2, &mut self.second, payload);
-        }
+        crate::line::each(who, &mut self.first, &mut self.second, |number, receiver| {
+            get(rt, kind, number, receiver, payload)
+        });
     }
 
     // `digit=`: an entry is sent. What is sent comes to the receivers that *who* names.
@@ -96,7 +93,7 @@ impl Dialling {
             Kind::Digit => self.digit(rt, octets),
             _ => {
                 let who = octets::octet(octets, 0);
-                self.hear(rt, kind, who, crate::line::behind(octets, 1));
+                self.hear(rt, kind, who, octets.get(1..).unwrap_or(octets));
             }
         }
     }

@@ -75,16 +75,19 @@ pub fn known(text: &[u8], room: &mut [u8]) -> Option<Stated>
     Some(Stated { kind, size })
 }
 
-// The octets of a line from a place on.
-pub fn behind(octets: &[u8], at: usize) -> &[u8] {
-    if at <= octets.len() {
-        &octets[at..]
-    } else {
-        octets
-    }
-}
-
 // Prints the number of a refusal.
 pub fn refused(rt: &impl Print, refusal: Refusal) {
     console::print::number(rt, b"refused=", u64::from(refusal.number()));
+}
+
+// What is done to the receivers that *who* names: 1 the first, 2 the second, 3 both.
+pub fn each<R, F: FnMut(u64, &mut R)>(who: u8, first: &mut R, second: &mut R, mut done: F)
+    requires { (d : _) (number : _) (receiver : _) → F.pre d number receiver }
+{
+    if who % 2 == 1 {
+        done(1, first);
+    }
+    if 1 < who {
+        done(2, second);
+    }
 }

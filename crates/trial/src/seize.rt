@@ -48,7 +48,7 @@ fn get(rt: &impl Print, kind: Kind, number: u64, receiver: &mut Receiver, payloa
 // The entry of a line: who, alarm, ten samples.
 fn entry(octets: &[u8]) -> Entry {
     let mut samples = [0u8; 10];
-    let _ = octets::put_octets(&mut samples, 0, crate::line::behind(octets, 2));
+    let _ = octets::put_octets(&mut samples, 0, octets.get(2..).unwrap_or(octets));
     Entry {
         alarm: octets::octet(octets, 1) == 1,
         samples,
@@ -65,14 +65,11 @@ impl Seizing {
         }
     }
 
-    // What a line of a kind does to the receivers that *who* names: 1 the first, 2 the second, 3 both.
+    // What a line of a kind does to the receivers that *who* names.
     fn hear(&mut self, rt: &impl Print, kind: Kind, who: u8, payload: &[u8]) {
-        if who % 2 == 1 {
-            get(rt, kind, 1, &mut self.first, payload);
-        }
-        if 1 < who {
-            get(rt, kind, 2, &mut self.second, payload);
-        }
+        crate::line::each(who, &mut self.first, &mut self.second, |number, receiver| {
+            get(rt, kind, number, receiver, payload)
+        });
     }
 
     // `samples=`: an entry is sent. What is sent comes to the receivers that *who* names.
@@ -108,7 +105,7 @@ impl Seizing {
             Kind::Samples => self.samples(rt, octets),
             _ => {
                 let who = octets::octet(octets, 0);
-                self.hear(rt, kind, who, crate::line::behind(octets, 1));
+                self.hear(rt, kind, who, octets.get(1..).unwrap_or(octets));
             }
         }
     }

@@ -5,15 +5,6 @@ use fax::Command;
 use sid::Sid;
 use signalling::layout::Signalling;
 
-// The octets of a line from a place on.
-pub fn body(octets: &[u8], at: usize) -> &[u8] {
-    if at <= octets.len() {
-        &octets[at..]
-    } else {
-        octets
-    }
-}
-
 // Whether an octet is 1.
 pub fn set(octets: &[u8], at: usize) -> bool {
     octets::octet(octets, at) == 1
@@ -49,7 +40,7 @@ pub fn digits(octets: &[u8]) -> Digits {
 // alarm, sequence, thirty samples
 pub fn signalling(octets: &[u8]) -> Signalling {
     let mut samples = [0u8; 30];
-    let _ = octets::put_octets(&mut samples, 0, body(octets, 4));
+    let _ = octets::put_octets(&mut samples, 0, octets.get(4..).unwrap_or(octets));
     Signalling {
         alarm: set(octets, 2),
         sequence: SignallingCount(octets::octet(octets, 3)),

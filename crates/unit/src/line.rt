@@ -40,14 +40,6 @@ fn kind_of(key: &[u8]) -> Option<Kind> {
     }
 }
 
-// The octets of a room that are in use.
-pub fn front(room: &[u8], size: usize) -> &[u8] {
-    if room.len() < size {
-        return &room[..0];
-    }
-    &room[0..size]
-}
-
 // A number of two octets, the high one first.
 pub fn pair(octets: &[u8], at: usize) -> u16 {
     if at < octets.len() {

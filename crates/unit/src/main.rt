@@ -13,43 +13,23 @@ use console::input::Input;
 use std::io::Read;
 
 // What the card can be handed, and what is written.
-#[derive(Clone, Copy)]
+#[derive(Drop)]
 struct Stands {
     held: Held,
     lent: Lent,
 }
 
-// A line without its LF; the octets of the longest have room.
-fn answer(
-    rt: &impl Print,
-    number: u64,
-    text: &[u8],
-    table: &[u16; 256],
-    frame: &mut [u8; 1700],
-    silence: &mut [u8; 1700],
-    lent: &mut [u8; 1700],
-    stands: Stands,
-) -> Stands {
-    let mut room = [0u8; 2000];
-    match crate::line::known(text, &mut room) {
-        Some(stated) => {
-            let octets = &room[..stated.size];
-            Stands {
-                held: crate::hand::take(
-                    rt,
-                    stated.kind,
-                    octets,
-                    table,
-                    frame,
-                    silence,
-                    stands.held,
-                ),
-                lent: crate::write::take(rt, stated.kind, octets, table, lent, stands.lent),
+impl Stands {
+    // A line without its LF; the octets of the longest have room.
+    fn answer(&mut self, rt: &impl Print, number: u64, text: &[u8], table: &[u16; 256]) {
+        let mut room = [0u8; 2000];
+        match crate::line::known(text, &mut room) {
+            Some(stated) => {
+                let octets = &room[..stated.size];
+                self.held.take(rt, stated.kind, octets, table);
+                self.lent.take(rt, stated.kind, octets, table);
             }
-        }
-        None => {
-            console::lines::malformed(rt, number);
-            stands
+            None => console::lines::malformed(rt, number),
         }
     }
 }
@@ -63,12 +43,9 @@ fn run(
     begins: Input,
     table: &[u16; 256],
 ) {
-    let mut frame = [0u8; 1700];
-    let mut silence = [0u8; 1700];
-    let mut lent = [0xeeu8; 1700];
     let mut stands = Stands {
-        held: crate::hand::none(),
-        lent: crate::write::none(),
+        held: Held::none(),
+        lent: Lent::none(),
     };
     let mut input = begins;
     for number in 1..=u64::MAX {
@@ -77,16 +54,7 @@ fn run(
             return;
         };
         input = given.input;
-        stands = answer(
-            rt,
-            number,
-            &text[..size],
-            table,
-            &mut frame,
-            &mut silence,
-            &mut lent,
-            stands,
-        );
+        stands.answer(rt, number, &text[..size], table);
     }
 }
 

@@ -4,35 +4,12 @@ use counts::{DataCount, VoiceCount};
 use place::Writer;
 use refusal::Refusal;
 
-// How many octets the lent frame has, and where the writer stands.
-#[derive(Clone, Copy)]
+// The lent frame, how many octets of it are lent, and where the writer stands.
+#[derive(Drop)]
 pub struct Lent {
+    frame: [u8; 1700],
     room: usize,
     writer: Writer,
-}
-
-// No frame is lent.
-pub fn none() -> Lent {
-    Lent {
-        room: 0,
-        writer: place::fresh(),
-    }
-}
-
-// Prints the writer after a sub-frame, or the refusal, which leaves the writer where it was.
-fn answered(rt: &impl Print, answer: Result<Writer, Refusal>, writer: Writer) -> Writer {
-    match answer {
-        Ok(next) => {
-            console::print::number(rt, b"at=", next.at as u64);
-            console::print::number(rt, b"count=", next.count as u64);
-            console::print::number(rt, b"done=", u64::from(next.done));
-            next
-        }
-        Err(refusal) => {
-            console::print::number(rt, b"refused=", u64::from(refusal.number()));
-            writer
-        }
-    }
 }
 
 // Writes the content of a line: last and cid stand first in every line.
@@ -80,7 +57,7 @@ fn write_voice(
         cid,
         VoiceCount(octets::octet(octets, 2)),
         octets::octet(octets, 3),
-        crate::contents::body(octets, 4),
+        octets.get(4..).unwrap_or(octets),
     )
 }
 
@@ -101,7 +78,7 @@ fn write_fax(
         octets::octet(octets, 2),
         crate::contents::stamp(octets),
         crate::contents::command(octets),
-        crate::contents::body(octets, 11),
+        octets.get(11..).unwrap_or(octets),
     )
 }
 
@@ -122,40 +99,56 @@ fn write_data(
         crate::contents::set(octets, 2),
         crate::contents::set(octets, 3),
         DataCount(crate::line::pair(octets, 4)),
-        crate::contents::body(octets, 6),
+        octets.get(6..).unwrap_or(octets),
     )
 }
 
-// A line of a kind; one that is not about the lent frame changes nothing.
-pub fn take(
-    rt: &impl Print,
-    kind: Kind,
-    octets: &[u8],
-    table: &[u16; 256],
-    lent: &mut [u8],
-    stands: Lent,
-) -> Lent {
-    match kind {
-        Kind::Room => {
-            // Every octet of the lent frame is `ee`.
-            lent.fill(0xee);
-            Lent {
-                room: crate::line::pair(octets, 0) as usize,
-                writer: place::fresh(),
+impl Lent {
+    // No octet is lent.
+    pub fn none() -> Lent {
+        Lent {
+            frame: [0xeeu8; 1700],
+            room: 0,
+            writer: place::fresh(),
+        }
+    }
+
+    // `room=`: every octet of the lent frame is `ee`.
+    fn lend(&mut self, room: usize) {
+        self.frame.fill(0xee);
+        self.room = room.min(self.frame.len());
+        self.writer = place::fresh();
+    }
+
+    // A sub-frame is written, and the writer printed; or the refusal, which leaves the writer where it was.
+    fn written(&mut self, rt: &impl Print, content: Content, table: &[u16; 256], octets: &[u8]) {
+        let room = self.room.min(self.frame.len());
+        let writer = self.writer;
+        match write(content, &mut self.frame[..room], writer, table, octets) {
+            Ok(next) => {
+                console::print::number(rt, b"at=", next.at as u64);
+                console::print::number(rt, b"count=", next.count as u64);
+                console::print::number(rt, b"done=", u64::from(next.done));
+                self.writer = next;
+            }
+            Err(refusal) => {
+                console::print::number(rt, b"refused=", u64::from(refusal.number()));
             }
         }
-        Kind::Shown => {
-            console::print::octets(rt, b"lent=", crate::line::front(lent, stands.room));
-            stands
+    }
+
+    // `shown=`.
+    fn show(&self, rt: &impl Print) {
+        console::print::octets(rt, b"lent=", self.frame.get(..self.room).unwrap_or(&[]));
+    }
+
+    // A line of a kind; one that is not about the lent frame changes nothing.
+    pub fn take(&mut self, rt: &impl Print, kind: Kind, octets: &[u8], table: &[u16; 256]) {
+        match kind {
+            Kind::Room => self.lend(usize::from(crate::line::pair(octets, 0))),
+            Kind::Shown => self.show(rt),
+            Kind::Written(content) => self.written(rt, content, table, octets),
+            _ => {}
         }
-        Kind::Written(content) => {
-            let room = stands.room.min(lent.len());
-            let answer = write(content, &mut lent[..room], stands.writer, table, octets);
-            Lent {
-                room,
-                writer: answered(rt, answer, stands.writer),
-            }
-        }
-        _ => stands,
     }
 }

@@ -1,6 +1,0 @@
--- `list::list_all` is safe: the rooms keep their lengths.
-use Rattle.std.proofs.Common.{◌≡◌, length}
-use Rattle.list.proofs.list_all.Given as goal
-
-abbrev pub invariant-loop : goal.invariant-loop
-invariant-loop g l = (length l.input ≡ length l.initial.input) × (length l.out ≡ length l.initial.out)
