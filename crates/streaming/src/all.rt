@@ -8,7 +8,7 @@ use std::io::Read;
 // The room for what is told at once.
 pub const ROOM: usize = 65536;
 
-// What a program tells of a recording. The room takes what any line brings.
+// What a program tells of a recording. So that some of a piece is told, the room has to take what any line brings.
 pub trait Tells {
     // Tells a piece, as much of it as the room takes: some of it, and no more than it has.
     fn piece(&mut self, piece: &[u8], begun: Begun, out: &mut [u8; ROOM]) -> Walked
