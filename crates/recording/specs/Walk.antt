@@ -45,7 +45,7 @@ pub record Walk (S : Type 0) : Type 0 where
   pub next : Begun
   pub state : S
 
--- the answer of the code
+-- what the code answers that goes through a piece (listing, following)
 abbrev pub answered : {S : Type 0} → Walk S → Walked
 answered w = record { taken = w.taken; used = length w.text; next = w.next }
 

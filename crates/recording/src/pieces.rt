@@ -1,5 +1,5 @@
 // Where the provisioning text and a line end in a piece of the input (document 01, "Listing program").
-ghost use Rattle.std.specs.Prelude.{◌≡◌, true, false, ◌+◌, ◌<◌, ◌≤◌, length, take, drop};
+ghost use Rattle.std.specs.Prelude.{◌≡◌, true, false, ◌+◌, ◌<◌, ◌≤◌, length, take};
 ghost use Rattle.octets.specs.Room.{written};
 ghost use Rattle.octets.specs.Text.{has_lf};
 ghost use Rattle.recording.specs.Pieces.{text_end, line_end, to_keep, keeping};

@@ -1,4 +1,4 @@
-// A recording streamed from standard input, and what is told of it to standard output: what every program over recordings does.
+// A recording streamed from standard input, and what is told of it to standard output: what the programs over recordings do alike.
 #![tactic(auto)]
 
 pub mod all;
