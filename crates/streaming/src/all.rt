@@ -1,5 +1,6 @@
 // A whole recording told piece by piece: what the programs `list` and `follow` do alike.
-ghost use Rattle.std.specs.Prelude.{◌<◌, ◌≤◌, length};
+ghost use Rattle.std.specs.Prelude.{◌<◌, ◌≤◌, length, IfSome};
+ghost use Rattle.streaming.specs.Pieces.{Within, GoesOn};
 
 use crate::input::Piece;
 use recording::stream::{Begun, Walked};
@@ -17,6 +18,40 @@ pub trait Tells {
 
     // Tells a last line that lacks its LF, and answers how many octets of text that is.
     fn last(&mut self, begun: Begun, out: &mut [u8; ROOM]) -> usize;
+}
+
+// How it stands behind what was told of a piece: what is left of the piece, and how the next line begins.
+#[derive(Clone, Copy)]
+struct Stands {
+    left: Piece,
+    begun: Begun,
+}
+
+// Tells a piece, as much of it as the room takes, and prints that. What is left of it begins behind what was told; none where the
+// write fails.
+fn tell_piece<T: Tells>(
+    rt: &(impl Print + Eprint),
+    program: &[u8],
+    input: &[u8],
+    piece: Piece,
+    begun: Begun,
+    tells: &mut T,
+    out: &mut [u8; ROOM],
+) -> Option<Stands>
+    requires { Within piece (length input.now) }
+    ensures { IfSome result (λ stands. GoesOn piece stands.left) }
+{
+    let told = tells.piece(&input[piece.from..piece.to], begun, out);
+    if !crate::output::print(rt, program, out, told.used) {
+        return None;
+    }
+    Some(Stands {
+        left: Piece {
+            from: piece.from + told.taken,
+            to: piece.to,
+        },
+        begun: told.next,
+    })
 }
 
 // Tells piece after piece, from the one behind the text to the end of the input, and a last line without LF, and prints what is
@@ -40,14 +75,10 @@ pub fn tell_all<T: Tells>(
             crate::output::print(rt, program, &out, used);
             return;
         }
-        let told = tells.piece(&input[piece.from..piece.to], begun, &mut out);
-        if !crate::output::print(rt, program, &out, told.used) {
+        let Some(stands) = tell_piece(rt, program, input, piece, begun, tells, &mut out) else {
             return;
-        }
-        left = Piece {
-            from: piece.from + told.taken,
-            to: piece.to,
         };
-        begun = told.next;
+        left = stands.left;
+        begun = stands.begun;
     }
 }
