@@ -40,8 +40,6 @@ fn refused(rt: &impl Print, answer: Refused) {
 // Each `/` becomes an LF.
 fn put_lines(text: &mut [u8]) {
     for character in text.iter_mut() {
-        if *character == b'/' {
-            *character = LF;
-        }
+        *character = if *character == b'/' { LF } else { *character };
     }
 }
