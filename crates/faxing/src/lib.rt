@@ -18,16 +18,16 @@ const PAGE_SIZES: [u8; 12] = [0, 0, 12, 24, 36, 48, 60, 72, 36, 48, 60, 72];
 // The modulation in force, with HDLC or without; and of the payload taken just before the command's code, the number and the stamp.
 #[derive(Clone, Copy)]
 pub struct InForce {
-    hdlc: bool,
-    modulation: u8,
-    code: u8,
-    last: FaxCount,
-    stamp: Option<u16>,
+    pub hdlc: bool,
+    pub modulation: u8,
+    pub code: u8,
+    pub last: FaxCount,
+    pub stamp: Option<u16>,
 }
 
 // A replay: no modulation is on, or one is.
 #[derive(Clone, Copy)]
-pub struct Receiver(Option<InForce>);
+pub struct Receiver(pub Option<InForce>);
 
 // What a payload did: nothing, where it repeats a command or is an off with none on; else what its command says, modulation-on,
 // modulation-off, data (which may add no octet), end-of-frame, abort. Stamps are in milliseconds.
@@ -101,15 +101,16 @@ fn gap_at(hdlc: bool, command: Command, step: u8) -> bool
 }
 
 // The newest octets of a body, which has the newest first: oldest first from place 0, then 0.
-#[tactic(auto, using(crate::proofs::Places::turned))]
+#[tactic(auto, using(crate::proofs::Places::one_more))]
 fn handed_on(body: &[u8], count: usize) -> [u8; 72]
     requires { (count ≤ length body.now) × (count ≤ 72) }
     ensures { result ≡ handed_on count body.now }
 {
     let mut octets = [0u8; 72];
-    let newest = &mut octets[..count];
-    newest.copy_from_slice(&body[..count]);
-    newest.reverse();
+    // Mostly one to three: a loop takes less time than moving and turning round.
+    for i in 0..count {
+        octets[i] = body[count - 1 - i];
+    }
     octets
 }
 

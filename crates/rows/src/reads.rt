@@ -1,4 +1,8 @@
 // Frames checked, opened and read, and handed to the voice card.
+ghost use Rattle.std.specs.Prelude.{◌≡◌, ◌≤◌, length};
+ghost use Rattle.header.specs.Header.{end_of};
+ghost use Rattle.frame.specs.Opening.{opening};
+
 use crate::fold::{flag, fold, level, octet};
 use crate::items::Works;
 use fax::Command;
@@ -34,21 +38,26 @@ fn read(acc: u64, frame: &[u8], table: &[u16; 256]) -> u64 {
     }
 }
 
-fn read_subs(acc: u64, frame: &[u8], table: &[u16; 256], count: usize) -> u64 {
+// The sub-frames of a frame that opens, header by header.
+fn read_subs(acc: u64, frame: &[u8], table: &[u16; 256], count: usize) -> u64
+    requires { count ≡ length (opening frame.now).subs }
+{
     let mut folded = acc;
     let mut at: usize = 0;
     for _ in 0..count {
         let sub = header::sub_at(frame, at);
         folded = read_sub(folded, frame, table, sub);
-        at = sub.start.saturating_add(sub.len);
+        at = sub.start + sub.len;
     }
     folded
 }
 
-fn read_sub(acc: u64, frame: &[u8], table: &[u16; 256], sub: SubFrame) -> u64 {
+fn read_sub(acc: u64, frame: &[u8], table: &[u16; 256], sub: SubFrame) -> u64
+    requires { end_of sub ≤ length frame.now }
+{
     let at = octet(octet(acc, sub.cid), sub.ptype);
     let found = record::table::record_of(table, sub.cid);
-    let payload = crate::items::part(frame, sub.start, sub.len);
+    let payload = &frame[sub.start..sub.start + sub.len];
     match read_payload(at, found, sub.ptype, payload) {
         Ok(folded) => folded,
         Err(refusal) => octet(at, refusal.number()),

@@ -188,25 +188,19 @@ fn page(start: u64, octets: &[u8], count: u8) -> u64 {
     acc
 }
 
-// What the fax replay hands on: beside a refusal, nothing.
+// What the fax replay hands on; beside a refusal nothing, and nothing is done.
 fn faxed(acc: u64, answer: Result<faxing::Handed, Refusal>) -> u64 {
     match answer {
-        Ok(handed) => handed_on(octet(acc, refusal::SOUND), handed),
+        Ok(handed) => {
+            let said = fold(octet(acc, refusal::SOUND), flag(handed.gap));
+            let page = page(octet(said, handed.count), &handed.octets, handed.count);
+            done(page, handed.did)
+        }
         Err(refusal) => {
-            let nothing = faxing::Handed {
-                gap: false,
-                count: 0,
-                octets: [0u8; 72],
-                did: Did::Nothing,
-            };
-            handed_on(octet(acc, refusal.number()), nothing)
+            let said = fold(octet(acc, refusal.number()), flag(false));
+            done(octet(said, 0), Did::Nothing)
         }
     }
-}
-
-fn handed_on(acc: u64, handed: faxing::Handed) -> u64 {
-    let said = octet(fold(acc, flag(handed.gap)), handed.count);
-    done(page(said, &handed.octets, handed.count), handed.did)
 }
 
 // The items as payloads to one fax replay.
