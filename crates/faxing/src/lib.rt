@@ -240,38 +240,37 @@ impl Receiver {
     }
 
     // The modulation stays in force, and this payload is then the one taken just before.
-    fn taken_in_force(self, code: u8, number: u8, stamp: Option<u16>) -> Receiver
-        ensures { result ≡ taken_in_force self code number stamp }
+    fn taken_in_force(&mut self, code: u8, number: u8, stamp: Option<u16>)
+        ensures { self.new ≡ taken_in_force self.old code number stamp }
     {
-        Receiver(
-            self.0.map(|on| InForce {
-                code,
-                last: FaxCount(number),
-                stamp,
-                ..on
-            }),
-        )
+        if let Some(on) = &mut self.0 {
+            on.code = code;
+            on.last = FaxCount(number);
+            on.stamp = stamp;
+        }
     }
 
-    fn receiver_after(self, command: Command, number: u8, stamp: Option<u16>) -> Receiver
-        ensures { result ≡ receiver_after self command number stamp }
+    fn receiver_after(&mut self, command: Command, number: u8, stamp: Option<u16>)
+        ensures { self.new ≡ receiver_after self.old command number stamp }
     {
         let code = fax::code_of(command);
         match command {
-            Command::Off => Receiver(None),
+            Command::Off => self.0 = None,
             Command::On {
                 hdlc,
                 modulation,
                 ..
-            } => Receiver(Some(InForce {
-                hdlc,
-                modulation,
-                code,
-                last: FaxCount(number),
-                stamp,
-            })),
+            } => {
+                self.0 = Some(InForce {
+                    hdlc,
+                    modulation,
+                    code,
+                    last: FaxCount(number),
+                    stamp,
+                });
+            }
             Command::Page | Command::EndOfFrame | Command::Abort => {
-                self.taken_in_force(code, number, stamp)
+                self.taken_in_force(code, number, stamp);
             }
         }
     }
@@ -286,7 +285,7 @@ impl Receiver {
         let hdlc = self.under_hdlc();
         let step = self.step_from(fax.sequence);
         let count = add_count(hdlc, fax.command, step, body.len());
-        *self = self.receiver_after(fax.command, fax.sequence, fax.stamp);
+        self.receiver_after(fax.command, fax.sequence, fax.stamp);
         Handed {
             gap: gap_at(hdlc, fax.command, step),
             count: count as u8,
