@@ -66,7 +66,10 @@ fn change(items: &mut [u8], place: Place, at: Option<usize>, acc: u64) {
 }
 
 fn octets_of(items: &[u8], place: Place) -> &[u8] {
-    part(items, place.start, place.end.saturating_sub(place.start))
+    if place.end < place.start || items.len() < place.end {
+        return &items[..0];
+    }
+    &items[place.start..place.end]
 }
 
 // What the works make of the items, folded.
