@@ -29,17 +29,19 @@ pub struct Line {
 
 // Takes a character, from a new block when the last one is used up. A read that fails ends the input.
 fn next_character(reader: &mut impl Read, block: &mut [u8], input: Input) -> Next {
-    let (at, have) = if input.taken < input.have {
-        (input.taken, input.have)
-    } else {
-        (0, reader.read(block).unwrap_or(0))
-    };
+    if input.taken < input.have {
+        return Next {
+            character: Some(octets::octet(block, input.taken)),
+            input: Input {
+                taken: input.taken + 1,
+                have: input.have,
+            },
+        };
+    }
+    let have = reader.read(block).unwrap_or(0);
     Next {
-        character: (at < have).then_some(octets::octet(block, at)),
-        input: Input {
-            taken: at + 1,
-            have,
-        },
+        character: (0 < have).then_some(octets::octet(block, 0)),
+        input: Input { taken: 1, have },
     }
 }
 

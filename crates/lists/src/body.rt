@@ -40,5 +40,6 @@ pub fn filled(body: Body) -> [u8; 1600] {
 
 // Whether octets are those of a body.
 pub fn same(octets: &[u8], body: Body) -> bool {
-    octets == filled(body).get(..body.len).unwrap_or(&[])
+    let room = filled(body);
+    octets == room.get(..body.len).unwrap_or(&[])
 }
