@@ -11,9 +11,22 @@ use lib.Seq.{take-take, drop_at, length-take-le, take-append-le}
 use Rattle.octets.specs.Made.{Made, made, unmade, fit_of}
 use Rattle.octets.specs.Room.{written}
 use Rattle.joining.specs.Joining.{shortest_header}
+use Rattle.std.specs.declared.result.Result.{Result}
+use Rattle.std.specs.declared.result.Result.TheVariants.{Ok, Err}
+use Rattle.refusal.specs.declared.Refusal.{Refusal}
+use Rattle.place.specs.declared.Place.{Place}
 use Rattle.place.specs.declared.Writer.{Writer}
-use Rattle.place.specs.Place.{most_not_last, too_long, entered, place_at}
+use Rattle.place.specs.Place.{most_not_last, too_long, entered, entering, place_at}
 use Rattle.place.proofs.PlaceCases.{never, Placed, placed-back}
+
+-- Both refusals as one, where the fit's is one of the documents' too.
+abbrev pub as-one : Result (Result Place Refusal) Refusal → Result Place Refusal
+as-one (Ok place) = place
+as-one (Err unfit) = Err unfit
+
+pub enters : (room : ℕ) (w : Writer) (last : Bool) (cid ptype : ℕ) (fit : Result ℕ Refusal) → as-one (entering room w last cid ptype fit) ≡ entered room w last cid ptype fit
+enters room w last cid ptype (Ok len) = refl
+enters room w last cid ptype (Err unfit) = refl
 
 -- a content that has its place: what its layout makes
 pub record Entry (room : ℕ) (w : Writer) (last : Bool) (cid ptype : ℕ) (m : Made) (start len : ℕ) (next : Writer) : Type 0 where

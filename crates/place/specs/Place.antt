@@ -69,3 +69,8 @@ placed room w last cid ptype len =
 abbrev pub entered : ℕ → Writer → Bool → ℕ → ℕ → Result ℕ Refusal → Result Place Refusal
 entered room w last cid ptype (Err refusal) = Err refusal
 entered room w last cid ptype (Ok len) = placed room w last cid ptype len
+
+-- the same of a fit whose refusal is told in any form: it stands as it is, beside what the place gives
+abbrev pub entering : {E : Type 0} → ℕ → Writer → Bool → ℕ → ℕ → Result ℕ E → Result (Result Place Refusal) E
+entering room w last cid ptype (Err unfit) = Err unfit
+entering room w last cid ptype (Ok len) = Ok (placed room w last cid ptype len)

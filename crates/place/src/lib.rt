@@ -4,7 +4,7 @@
 
 ghost use Rattle.std.specs.Prelude.{◌≡◌, ◌+◌};
 ghost use Rattle.record.specs.Record.{found_at};
-ghost use Rattle.place.specs.Place.{fresh_writer, channel_for, too_long, full, placed, entered};
+ghost use Rattle.place.specs.Place.{fresh_writer, channel_for, too_long, full, placed, entering};
 
 use payload::layout::Kind;
 use record::syntax::Record;
@@ -120,16 +120,19 @@ fn place_for(
     Ok(Place { start, len, next })
 }
 
-// 13 to 16 for a content that fits so, then 22, 23, 21: its place.
-pub fn enter(
+// What the fit of a content refuses, told in any form; else 22, 23, 21, or its place.
+pub fn enter<E>(
     room: usize,
     writer: Writer,
     last: bool,
     cid: u8,
     ptype: u8,
-    fit: Result<usize, Refusal>,
-) -> Result<Place, Refusal>
-    ensures { result ≡ entered room writer last cid ptype fit }
+    fit: Result<usize, E>,
+) -> Result<Result<Place, Refusal>, E>
+    ensures { result ≡ entering room writer last cid ptype fit }
 {
-    place_for(room, writer, last, cid, ptype, fit?)
+    match fit {
+        Ok(len) => Ok(place_for(room, writer, last, cid, ptype, len)),
+        Err(unfit) => Err(unfit),
+    }
 }

@@ -22,7 +22,8 @@ pub(crate) fn write<C: Content>(
 {
     let channel = place::channel_for(writer, table, cid, content.kind())?;
     let fit = content.fit(channel.rec);
-    let place = place::enter(frame.len(), writer, last, cid, channel.ptype, fit)?;
+    let entered = place::enter(frame.len(), writer, last, cid, channel.ptype, fit)?;
+    let place = entered?;
     // The room for both was looked at.
     content.put(frame, place.start, channel.rec);
     let _ = crate::lead::lead(frame, writer, last, cid, channel.ptype, place.len);

@@ -5,6 +5,7 @@ use Rattle.std.proofs.lemmas.Result.{err_from_is_err_and}
 use Rattle.record.specs.Record.{found_at}
 use Rattle.payload.specs.Content.{kind_of}
 use Rattle.place.specs.Place.{channel_for}
+use Rattle.place.proofs.EnterCases.{as-one, enters}
 use Rattle.writer.specs.Answers.{answered}
 use Rattle.writer.proofs.WriteCases as cases
 use Rattle.writer.proofs.write.write.Goals as goal
@@ -25,20 +26,31 @@ pub returns-in_err-channel-clause-holds : goal.returns-in_err-channel-clause-hol
 returns-in_err-channel-clause-holds g c =
     (cases.not_taken answered _ _ _ _ _ _ (told g (goal.at.returns-in_err-channel-clause-holds g c).After-channel_for) c.in_err-channel.was).1
 
+pub returns-in_err-entered-clause-answer : goal.returns-in_err-entered-clause-answer
+returns-in_err-entered-clause-answer g c =
+    let a = c.args in
+    let p = err_from_is_err_and c.from_residual-in_err-entered.result c.from_residual-in_err-entered.ensures.1 in
+    p.1 ∙ ap Err p.2
+    ∙ (cases.refused answered _ _ _ _ _ _ (told g (goal.at.returns-in_err-entered-clause-answer g c).After-channel_for) c.in_ok-channel.was c.fit-fit.ensures (ap as-one c.enter.ensures ∙ enters _ _ _ _ _ _) (ap as-one c.in_err-entered.was)).0
+
+pub returns-in_err-entered-clause-holds : goal.returns-in_err-entered-clause-holds
+returns-in_err-entered-clause-holds g c =
+    (cases.refused answered _ _ _ _ _ _ (told g (goal.at.returns-in_err-entered-clause-holds g c).After-channel_for) c.in_ok-channel.was c.fit-fit.ensures (ap as-one c.enter.ensures ∙ enters _ _ _ _ _ _) (ap as-one c.in_err-entered.was)).1
+
 pub returns-in_err-place-clause-answer : goal.returns-in_err-place-clause-answer
 returns-in_err-place-clause-answer g c =
     let p = err_from_is_err_and c.from_residual-in_err-place.result c.from_residual-in_err-place.ensures.1 in
     p.1 ∙ ap Err p.2
-    ∙ (cases.refused answered _ _ _ _ _ _ (told g (goal.at.returns-in_err-place-clause-answer g c).After-channel_for) c.in_ok-channel.was c.fit-fit.ensures c.enter.ensures c.in_err-place.was).0
+    ∙ (cases.refused answered _ _ _ _ _ _ (told g (goal.at.returns-in_err-place-clause-answer g c).After-channel_for) c.in_ok-channel.was c.fit-fit.ensures (ap as-one c.enter.ensures ∙ enters _ _ _ _ _ _) (ap as-one c.in_ok-entered.was ∙ c.in_err-place.was)).0
 
 pub returns-in_err-place-clause-holds : goal.returns-in_err-place-clause-holds
 returns-in_err-place-clause-holds g c =
-    (cases.refused answered _ _ _ _ _ _ (told g (goal.at.returns-in_err-place-clause-holds g c).After-channel_for) c.in_ok-channel.was c.fit-fit.ensures c.enter.ensures c.in_err-place.was).1
+    (cases.refused answered _ _ _ _ _ _ (told g (goal.at.returns-in_err-place-clause-holds g c).After-channel_for) c.in_ok-channel.was c.fit-fit.ensures (ap as-one c.enter.ensures ∙ enters _ _ _ _ _ _) (ap as-one c.in_ok-entered.was ∙ c.in_err-place.was)).1
 
 pub returns-clause-answer : goal.returns-clause-answer
 returns-clause-answer g c =
-    (cases.wrote answered _ _ _ _ _ _ (told g (goal.at.returns-clause-answer g c).After-channel_for) c.in_ok-channel.was c.fit-fit.ensures c.enter.ensures c.in_ok-place.was c.put.ensures c.lead.ensures.answer c.lead.ensures.holds).0
+    (cases.wrote answered _ _ _ _ _ _ (told g (goal.at.returns-clause-answer g c).After-channel_for) c.in_ok-channel.was c.fit-fit.ensures (ap as-one c.enter.ensures ∙ enters _ _ _ _ _ _) (ap as-one c.in_ok-entered.was ∙ c.in_ok-place.was) c.put.ensures c.lead.ensures.answer c.lead.ensures.holds).0
 
 pub returns-clause-holds : goal.returns-clause-holds
 returns-clause-holds g c =
-    (cases.wrote answered _ _ _ _ _ _ (told g (goal.at.returns-clause-holds g c).After-channel_for) c.in_ok-channel.was c.fit-fit.ensures c.enter.ensures c.in_ok-place.was c.put.ensures c.lead.ensures.answer c.lead.ensures.holds).1
+    (cases.wrote answered _ _ _ _ _ _ (told g (goal.at.returns-clause-holds g c).After-channel_for) c.in_ok-channel.was c.fit-fit.ensures (ap as-one c.enter.ensures ∙ enters _ _ _ _ _ _) (ap as-one c.in_ok-entered.was ∙ c.in_ok-place.was) c.put.ensures c.lead.ensures.answer c.lead.ensures.holds).1
