@@ -2,6 +2,8 @@
 -- inputs, refused ones too" (document 01, "What the contracts settle"). A returned state is a part of the result, or what `self` holds at exit. The theorems
 -- stand in proofs/, a file a crate; each speaks of the function's contract itself (`Post`, which the kit makes of it).
 use Rattle.std.specs.Prelude.{◌≡◌, ℕ, List}
+use denote.RattleType.{RattleType}
+use denote.Param.Laws.{Laws}
 use contract.Lifetimes.{Lfts}
 use borrow.Fn.Kinds.{ParamKind, ResultKind, Dens, Out, res_t, ended_of}
 use Rattle.std.specs.Borrow.{Bor}
@@ -19,6 +21,10 @@ OneAnswer n ps r lent post =
     → post κs a x s
     → post κs a y t
     → (x ≡ y) × (lent κs s ≡ lent κs t)
+
+-- The same of a function over a type, whatever the type is.
+abbrev pub OneAnswer-each : (n : ℕ) (ps : (T : RattleType) → Laws T → List (ParamKind n)) (r : (T : RattleType) → Laws T → ResultKind n) {H : Type 0} → ((T : RattleType) (laws : Laws T) (κs : Lfts n) → AtExit (ended_of n (ps T laws) (r T laws)) κs → H) → ((T : RattleType) (laws : Laws T) → Out n (ps T laws) (r T laws)) → Type 2
+OneAnswer-each n ps r lent post = (T : RattleType) (laws : Laws T) → OneAnswer n (ps T laws) (r T laws) (lent T laws) (post T laws)
 
 -- The same where the result is a part of a lent slice: its octets and where they lie.
 abbrev pub OnePart : (n : ℕ) (ps : List (ParamKind n)) (r : ResultKind n) {X H : Type 0} → ((κs : Lfts n) → (res_t r κs).Denot → Bor X) → ((κs : Lfts n) → AtExit (ended_of n ps r) κs → H) → Out n ps r → Type 0
