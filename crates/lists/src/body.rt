@@ -40,6 +40,7 @@ pub fn filled(body: Body) -> [u8; 1600] {
 
 // Whether octets are those of a body.
 pub fn same(octets: &[u8], body: Body) -> bool {
-    let room = filled(body);
+    let mut room = [0u8; 1600];
+    fill(&mut room, body);
     octets == room.get(..body.len).unwrap_or(&[])
 }
