@@ -193,7 +193,9 @@ fn faxed(acc: u64, answer: Result<faxing::Handed, Refusal>) -> u64 {
     match answer {
         Ok(handed) => {
             let said = fold(octet(acc, refusal::SOUND), flag(handed.gap));
-            let page = page(octet(said, handed.count), &handed.octets, handed.count);
+            // A copy of their own, which the compiler keeps apart from the rest.
+            let octets = handed.octets;
+            let page = page(octet(said, handed.count), &octets, handed.count);
             done(page, handed.did)
         }
         Err(refusal) => {
