@@ -76,7 +76,9 @@ fn appended_digits(acc: u64, appended: dialled::Appended) -> u64 {
 // The entry of eleven octets.
 fn signalling_entry(item: &[u8]) -> seizing::Entry {
     let mut samples = [0u8; 10];
-    let _ = octets::put_octets(&mut samples, 0, crate::items::part(item, 1, 10));
+    if let Some(ten) = item.get(1..11) {
+        samples.copy_from_slice(ten);
+    }
     seizing::Entry {
         alarm: octets::octet(item, 0) % 2 == 1,
         samples,
