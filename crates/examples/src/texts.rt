@@ -37,7 +37,7 @@ fn refused(rt: &impl Print, answer: Refused) {
     console::print::number(rt, b" line ", answer.line as u64);
 }
 
-// Each `/` becomes an LF.
+// Each `/` becomes an LF. Every octet is put, changed or not, so that the compiler does many at once.
 fn put_lines(text: &mut [u8]) {
     for character in text.iter_mut() {
         *character = if *character == b'/' { LF } else { *character };

@@ -73,7 +73,7 @@ fn appended_digits(acc: u64, appended: dialled::Appended) -> u64 {
     windows(filled, first, second, third)
 }
 
-// The entry of eleven octets.
+// The entry of eleven octets; its ten samples are copied as a length that the compiler knows.
 fn signalling_entry(item: &[u8]) -> seizing::Entry {
     let mut samples = [0u8; 10];
     if let Some(ten) = item.get(1..11) {
@@ -197,8 +197,8 @@ fn faxed(acc: u64, answer: Result<faxing::Handed, Refusal>) -> u64 {
             let said = fold(octet(acc, refusal::SOUND), flag(handed.gap));
             // A copy of their own, which the compiler keeps apart from the rest.
             let octets = handed.octets;
-            let page = page(octet(said, handed.count), &octets, handed.count);
-            done(page, handed.did)
+            let paged = page(octet(said, handed.count), &octets, handed.count);
+            done(paged, handed.did)
         }
         Err(refusal) => {
             let said = fold(octet(acc, refusal.number()), flag(false));
